@@ -1,0 +1,9 @@
+-- The laws that belong to no one function, and the worked examples.
+pub mod Laws
+pub mod Same
+pub mod Parts
+pub mod Digits
+pub mod Put
+pub mod Written
+pub mod Hex
+mod Examples

@@ -1,0 +1,6 @@
+-- The definitions of texts: answers, quoted texts, lines, fields and parts, numbers, and what the code's answers mean.
+pub mod Answer
+pub mod Literal
+pub mod Text
+pub mod Number
+pub mod Read
