@@ -1,0 +1,4 @@
+-- The definitions of UTF-8 and of a text.
+pub mod Utf8
+pub mod Alone
+pub mod Read
