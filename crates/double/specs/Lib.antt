@@ -1,0 +1,2 @@
+-- The definitions of double arithmetic.
+pub mod Double
