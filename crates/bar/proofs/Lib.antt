@@ -1,0 +1,5 @@
+-- The laws that belong to no one function.
+pub mod Diff
+pub mod Steps
+pub mod Laws
+pub mod Examples

@@ -1,0 +1,2 @@
+-- The definitions of a bar's times.
+pub mod Time

@@ -1,0 +1,51 @@
+// A bar's times: instants, local times, days and the seconds between two instants.
+ghost use mathlib.Core.Path.{_≡_};
+ghost use Prim.Native.Nat.{_<_, _^_};
+ghost use lib.Signed.{mag};
+ghost use Rattle.bar.specs.Time.{localTime, dayOf, secondsBetween};
+
+// Microseconds from 1970 UTC.
+pub struct Instant(pub i64);
+
+// Microseconds from 1970 of the wall clock. Only an instant with its offset becomes one: the field is private.
+pub struct LocalTime(i64);
+
+impl Instant {
+    // The wall clock's time at this instant, for an offset in seconds.
+    pub fn local(self, offset: i32) -> LocalTime
+        requires { ⌜ mag (self .0) < 2 ^ 62 ⌝ }
+        ensures { λ r. ⌜ r .0 ≡ localTime (self .0) offset ⌝ }
+    {
+        let o = offset as i64;
+        LocalTime(self.0 + o * 1000000)
+    }
+
+    // The whole seconds from this instant to a later one.
+    pub fn seconds_to(self, later: Instant) -> i64
+        requires { ⌜ mag (self .0) < 2 ^ 62 ⌝ ∗ ⌜ mag (later .0) < 2 ^ 62 ⌝ }
+        ensures { λ r. ⌜ (r ≡ secondsBetween (self .0) (later .0)) × (mag r < 2 ^ 53) ⌝ }
+    {
+        (later.0 - self.0) / 1000000
+    }
+}
+
+impl LocalTime {
+    // The microseconds.
+    pub fn micros(self) -> i64
+        ensures { λ r. ⌜ r ≡ self .0 ⌝ }
+    {
+        self.0
+    }
+
+    // The day, rounded down before 1970 too.
+    pub fn day(self) -> i64
+        ensures { λ r. ⌜ r ≡ dayOf (self .0) ⌝ }
+    {
+        let n = self.0;
+        if n < 0 {
+            -1 - (-1 - n) / 86400000000
+        } else {
+            n / 86400000000
+        }
+    }
+}
