@@ -1,0 +1,2 @@
+-- Laws of operates.
+pub mod Laws

@@ -1,0 +1,3 @@
+-- The definitions of operates.
+pub mod Operate
+pub mod Read
