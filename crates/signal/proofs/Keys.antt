@@ -1,0 +1,67 @@
+-- A key written part by part. Assumes nothing.
+use mathlib.Core.Path.{_≡_, refl}
+use mathlib.Core.Bool.{Bool, true, false, not, cond, _||_}
+use mathlib.Core.List.{List, [], _∷_, _++_, append-assoc, append-nil}
+use Prim.Native.Nat.{ℕ, _+_, _-_, _≤_}
+use native.Mathlib.Omega.{arith}
+use lib.ListN.{length}
+use lib.Seq.{slice, length-slice}
+use Rattle.text.specs.Text.{same, joined, underscore}
+use Rattle.text.specs.Read.{Part, Put}
+use Rattle.text.proofs.Put.{put-none, put-put}
+use Rattle.signal.specs.Signal.{wildcard, withoutWild, keyOf}
+use Rattle.signal.specs.Read.{keyPart, KeyPut}
+use Rattle.signal.specs.declared.KeyEnd.{KeyEnd}
+
+or-false : (b : Bool) → b ≡ b || false
+or-false true = refl
+or-false false = refl
+
+or-true : (b : Bool) → true ≡ b || true
+or-true true = refl
+or-true false = refl
+
+-- ---- one part
+
+module _ {s : List ℕ} {from to : ℕ} (p : Part s from to) (e : KeyEnd) where
+  size : length (slice from to s) ≡ to - from
+  size = length-slice from to s (p .within)
+
+  -- a wildcard adds nothing
+  pub key-wild : (l : List ℕ) → e .at ≤ length l → same (slice from to s) wildcard ≡ true → KeyPut l l e s from to e
+  key-wild l h w = record { put = rw w (put-none l (e .at) h); more = rw w (or-false (e .some)); near = omega arith }
+
+  module _ (w : same (slice from to s) wildcard ≡ false) where
+    -- behind another part, an underscore and the part
+    pub key-next : {l m n : List ℕ} {x q : ℕ} → e .some ≡ true → Put l m (e .at) (underscore ∷ []) x → Put m n x (slice from to s) q → KeyPut l n e s from to (record { at = q; some = true })
+    key-next o a b = record { put = rw (w, o) (put-put a b); more = rw w (or-true (e .some)); near = omega (arith, a .end, b .end, size) }
+
+    -- the first part
+    pub key-first : {l m : List ℕ} {q : ℕ} → e .some ≡ false → Put l m (e .at) (slice from to s) q → KeyPut l m e s from to (record { at = q; some = true })
+    key-first o a = record { put = rw (w, o) a; more = rw w (or-true (e .some)); near = omega (arith, a .end, size) }
+
+-- ---- three parts
+
+-- the three parts, each with what parts it from those before it
+three-parts : (a b c : List ℕ) → keyPart false a ++ keyPart (false || not (same a wildcard)) b ++ keyPart (false || not (same a wildcard) || not (same b wildcard)) c ≡ keyOf a b c
+unfolding keyOf withoutWild joined
+three-parts a b c = go (same a wildcard) (same b wildcard) (same c wildcard)
+  where
+    go : (x y z : Bool)
+        → cond x [] a ++ cond y [] (cond (not x) (underscore ∷ b) b) ++ cond z [] (cond (not x || not y) (underscore ∷ c) c)
+        ≡ joined (underscore ∷ []) (cond x (cond y (cond z [] (c ∷ [])) (b ∷ cond z [] (c ∷ []))) (a ∷ cond y (cond z [] (c ∷ [])) (b ∷ cond z [] (c ∷ []))))
+    go true true true = refl
+    go true true false = refl
+    go true false true = append-nil b
+    go true false false = simp append-assoc
+    go false true true = simp append-nil
+    go false true false = simp (append-nil, append-assoc)
+    go false false true = simp (append-nil, append-assoc)
+    go false false false = simp append-assoc
+
+pub key-is : {l m n o : List ℕ} {at : ℕ} {s : List ℕ} {a b c d f g : ℕ} {x y z : KeyEnd}
+    → KeyPut l m (record { at = at; some = false }) s a b x → KeyPut m n x s c d y → KeyPut n o y s f g z
+    → Put l o at (keyOf (slice a b s) (slice c d s) (slice f g s)) (z .at)
+key-is {s = s} {a} {b} {c} {d} {f} {g} p q r =
+    rw (← three-parts (slice a b s) (slice c d s) (slice f g s))
+    (rw (q .more, p .more) at (put-put (put-put (p .put) (q .put)) (r .put)))

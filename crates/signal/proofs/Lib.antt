@@ -1,0 +1,4 @@
+-- Laws of signals, keys and values.
+pub mod Parts
+pub mod Keys
+pub mod Says
