@@ -1,0 +1,3 @@
+-- The definitions of the exported calls.
+pub mod Calls
+pub mod Read
