@@ -1,2 +1,3 @@
 -- Laws of operates.
 pub mod Laws
+mod Examples

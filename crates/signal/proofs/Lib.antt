@@ -2,3 +2,4 @@
 pub mod Parts
 pub mod Keys
 pub mod Says
+mod Examples
