@@ -11,8 +11,7 @@ use lib.ListN.{length, getD, getElem?, drop, drop-of-length-le}
 use lib.Seq.{slice, take-length, drop-cons}
 use Rattle.text.specs.Answer.{Refused, Got, given}
 use Rattle.text.specs.Text.{same}
-use Rattle.utf8.specs.Alone.{alone}
-use Rattle.operate.specs.Operate.{latin, chinese, known, codeFrom, operateOf, operateAlone, operateName}
+use Rattle.operate.specs.Operate.{latin, chinese, known, codeFrom, operateOf, operateName}
 use Rattle.operate.specs.Read.{Name}
 
 -- ---- names and codes
@@ -97,14 +96,3 @@ module _ {s : List ℕ} {code : ℕ} (k : Seeking s code) where
   pub seeking-none : 7 ≤ code → Refused 4 ≡ operateOf s
   unfolding codeFrom
   seeking-none h = sym (k .rest ∙ rw (drop-of-length-le latin {i = code} (omega (arith, seven-latin))))
-
--- ---- an operate alone
-
-module _ (s : List ℕ) where
-  pub alone-refused : {n : ℕ} → Refused n ≡ alone s → Refused n ≡ operateAlone s
-  unfolding operateAlone
-  alone-refused e = rw (← e)
-
-  pub alone-fine : Got tt ≡ alone s → operateOf s ≡ operateAlone s
-  unfolding operateAlone
-  alone-fine e = rw (← e)

@@ -1,13 +1,14 @@
 -- Laws of the exported calls' definitions, for the proofs. Assumes nothing.
-use mathlib.Core.Path.{_≡_, _∙_, refl, ap}
+use mathlib.Core.Path.{_≡_, _∙_, ap}
 use mathlib.Core.List.{List, []}
-use Prim.Native.Nat.{ℕ, _+_, _-_, _≤_, _<_}
+use Prim.Native.Nat.{ℕ, _-_, _≤_, _<_}
 use native.Mathlib.Omega.{arith}
 use borrow.Author.Tests.{le-leb, lt-leb}
 use lib.ListN.{length, getD}
 use lib.Seq.{slice, take-length}
 use Rattle.text.specs.Answer.{Answer, Refused, Got}
 use Rattle.text.specs.Read.{Put}
+use Rattle.text.proofs.Answers.{refused-then}
 use Rattle.text.proofs.Put.{put-put}
 use Rattle.operate.specs.Operate.{chinese}
 use Rattle.operate.specs.Read.{Name}
@@ -43,7 +44,7 @@ signal-put {text} a {k} {p} {q} {r} x y u v = record { answer = rw (third, secon
 module _ (text out : List ℕ) where
   pub signal-refused : {n : ℕ} → Refused n ≡ signalAlone text → Refused n ≡ signalDo text out
   unfolding signalDo
-  signal-refused e = rw (← e)
+  signal-refused e = refused-then _ e
 
   pub signal-short : {g : Signal} → Got g ≡ signalAlone text → length out < length text → Refused 8 ≡ signalDo text out
   unfolding signalDo

@@ -1,7 +1,7 @@
 -- Worked examples of signals, keys and values, computed from the definitions. Assumes nothing.
 use mathlib.Core.Path.{_≡_, refl}
 use mathlib.Core.Option.{none, some}
-use lib.IntN.{pos, negsuc}
+use lib.IntN.{negsuc}
 use Rattle.text.specs.Answer.{Refused, Got}
 use Rattle.text.specs.Literal.{bytes, encoded}
 use Rattle.text.specs.Text.{same, has, onto, split, joined}

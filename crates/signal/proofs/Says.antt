@@ -11,14 +11,12 @@ use lib.Dec.{leb}
 use lib.IntN.{ℤ, pos, negsuc, negℤ}
 use lib.ListN.{length}
 use lib.Seq.{slice}
-use Rattle.text.specs.Answer.{Refused, Got}
 use Rattle.text.specs.Text.{split, underscore}
 use Rattle.text.specs.Number.{i32Of}
 use Rattle.text.specs.Read.{intOf}
 use Rattle.text.specs.declared.Int.{Int}
 use Rattle.text.specs.declared.Int.the-variants.{Plus, Minus, Not}
-use Rattle.utf8.specs.Alone.{alone}
-use Rattle.signal.specs.Signal.{score, scoreLimit, signalOf, signalAlone}
+use Rattle.signal.specs.Signal.{score, scoreLimit, signalOf}
 use Rattle.signal.specs.Value.{valueOf}
 use Rattle.signal.specs.Read.{partsFrom, Cuts, ReadAs, ValueAs}
 use Rattle.signal.specs.declared.SignalRead.the-variants.{Is, NotSeven, BadScore}
@@ -117,14 +115,3 @@ module _ {s : List ℕ} {v1 v2 v3 : ℕ} (a : Cuts s 0 v1 v2 v3) where
     pub value-is : {i : Int} → intOf i ≡ i32Of (slice (v3 + 1) (length s) s) → ValueAs s (Counts (record { v1 = v1; v2 = v2; v3 = v3; score = i }))
     unfolding valueOf
     value-is e = record { is = rw (four, ← e); ok = record { v1-v2 = a .second; v2-v3 = a .third; within = a .within } }
-
--- ---- a signal alone
-
-module _ (s : List ℕ) where
-  pub alone-refused : {n : ℕ} → Refused n ≡ alone s → Refused n ≡ signalAlone s
-  unfolding signalAlone
-  alone-refused e = rw (← e)
-
-  pub alone-fine : Got tt ≡ alone s → signalOf s ≡ signalAlone s
-  unfolding signalAlone
-  alone-fine e = rw (← e)

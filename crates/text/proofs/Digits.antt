@@ -1,15 +1,15 @@
 -- Laws of numbers that are read, and the invariants of `decimal` and `magnitude`. Assumes nothing.
-use mathlib.Core.Path.{_≡_, _∙_, refl, ap}
+use mathlib.Core.Path.{_≡_, _∙_, refl, sym, ap}
 use mathlib.Core.Logic.{_≢_}
-use mathlib.Core.Bool.{Bool, true, false, cond}
+use mathlib.Core.Bool.{Bool, true, false, cond, _&&_}
 use mathlib.Core.List.{List, [], _∷_}
-use mathlib.Core.Option.{none, some}
-use Prim.Native.Nat.{ℕ, _+_, _*_, _-_, _^_, _≤_, _<_}
-use native.Mathlib.Nat.{pow-suc, pow-le-pow-right, sub-self}
-use native.Mathlib.Numerals.{add-one}
+use mathlib.Core.Option.{Option, none, some}
+use Prim.Native.Nat.{ℕ, suc, _+_, _*_, _-_, _^_, _≤_, _<_}
+use native.Mathlib.Nat.{pow-suc, pow-le-pow-right, mul-comm, mul-assoc, mul-le-mul-right, lt-of-lt-of-le}
 use native.Mathlib.Omega.{arith}
-use borrow.Author.Tests.{le-leb, lt-leb, ne-eqb}
-use lib.ListN.{getD}
+use borrow.Author.Tests.{le-leb, lt-leb, leb-true, ne-eqb}
+use lib.Dec.{leb}
+use lib.ListN.{length, getD}
 use lib.Seq.{slice, length-slice}
 use Rattle.text.specs.Number.{within, digits, natural, atMost, digitsTo, plus, minus, i32Of}
 use Rattle.text.specs.Read.{Part}
@@ -57,50 +57,6 @@ module _ {s : List ℕ} {from to v i : ℕ} (r : Reading s from to v i) where
       pub reading-more : getD s i 0 ≤ 57 → (d : ℕ) → d ≡ getD s i 0 - 48 → Reading s from to (v * 10 + d) (i + 1)
       reading-more u d e = record { left = omega arith; begun = omega arith; same = next ∙ rw (le-leb _ _ l, le-leb _ _ u, e) }
 
--- ---- `decimal`: few digits, so that the value stays small
-
-module _ {s : List ℕ} {from to : ℕ} (p : Part s from to) (n : ℕ) where
-  pub decimal-long : n < to - from → digitsTo n (slice from to s) ≡ none
-  unfolding digitsTo
-  decimal-long h = rw (length-slice from to s (p .within), lt-leb _ _ h)
-
-  pub decimal-few : to - from ≤ n → digitsTo n (slice from to s) ≡ natural (slice from to s)
-  unfolding digitsTo
-  decimal-few h = rw (length-slice from to s (p .within), le-leb _ _ h)
-
--- one digit more
-grow : (v d k : ℕ) → v < 10 ^ k → d ≤ 9 → v * 10 + d < 10 ^ (k + 1)
-grow v d k h e = rw (add-one, pow-suc) (omega arith)
-
-pub record Short (s : List ℕ) (from to n v i : ℕ) : Type 0 where
-  pub reading : Reading s from to v i
-  pub few : to - from ≤ n
-  pub whole : digitsTo n (slice from to s) ≡ natural (slice from to s)
-  pub small : v < 10 ^ (i - from)
-
-pub short-first : {s : List ℕ} {from to : ℕ} → Part s from to → (n : ℕ) → from ≢ to → to - from ≤ n → Short s from to n 0 from
-short-first {s} {from} {to} p n h g = record {
-  reading = reading-first p h;
-  few = g;
-  whole = decimal-few p n g;
-  small = rw sub-self (omega arith);
-}
-
-module _ {s : List ℕ} {from to n v i : ℕ} (r : Short s from to n v i) where
-  -- before the last of at most 19 digits there are at most 18
-  pub short-fits : n ≤ 19 → i < to → v < 1000000000000000000
-  short-fits h k = omega (arith, r .small, pow-le-pow-right {n = 10} (omega arith) {i = i - from} {j = 18} (omega arith))
-
-  pub short-more : (h : i < to) → (l : 48 ≤ getD s i 0) → getD s i 0 ≤ 57 → (d : ℕ) → d ≡ getD s i 0 - 48 → Short s from to n (v * 10 + d) (i + 1)
-  short-more h l u d e = record {
-    reading = reading-more (r .reading) h l u d e;
-    few = r .few;
-    whole = r .whole;
-    small =
-        let k : i + 1 - from ≡ i - from + 1 = omega arith in
-        rw k (grow v d (i - from) (r .small) (omega arith));
-  }
-
 -- ---- `magnitude`: any number of digits, so that the value is cut at hi
 
 -- what is past the limit stays past it
@@ -122,6 +78,54 @@ pub record Bounded (s : List ℕ) (from to hi v i : ℕ) : Type 0 where
 
 pub bounded-last : {s : List ℕ} {from to hi v i : ℕ} → Bounded s from to hi v i → to ≤ i → atMost hi (natural (slice from to s)) ≡ some v
 bounded-last {hi = hi} r h = ap (atMost hi) (reading-last (r .reading) h) ∙ rw (le-leb _ _ (r .small))
+
+-- ---- `decimal`: few digits, so that nothing is cut
+
+-- a value with the digits l behind it
+digits-small : (l : List ℕ) (v w : ℕ) → digits (some v) l ≡ some w → w < (v + 1) * 10 ^ length l
+unfolding digits
+digits-small [] v w e =
+    let g : v ≡ w = cc in
+    omega arith
+digits-small (x ∷ t) v w e = go (leb 48 x) (leb x 57) refl (digits-small t (v * 10 + (x - 48)) w) e
+  where
+    more : (d p : ℕ) → d ≤ 9 → w < (v * 10 + d + 1) * p → w < (v + 1) * (p * 10)
+    more d p h k =
+        let e : (v + 1) * (p * 10) ≡ (v + 1) * 10 * p = ap (λ (n : ℕ). (v + 1) * n) (mul-comm p 10) ∙ sym (mul-assoc (v + 1) 10 p) in
+        let g : v * 10 + d + 1 ≤ (v + 1) * 10 = omega arith in
+        rw e (lt-of-lt-of-le k (mul-le-mul-right p g))
+
+    go : (a b : Bool) → leb x 57 ≡ b → (digits (some (v * 10 + (x - 48))) t ≡ some w → w < (v * 10 + (x - 48) + 1) * 10 ^ length t)
+        → digits (cond (a && b) (some (v * 10 + (x - 48))) none) t ≡ some w → w < (v + 1) * 10 ^ suc (length t)
+    go true true h ih k = rw (pow-suc 10 (length t)) (more (x - 48) (10 ^ length t) (omega (arith, leb-true x 57 h)) (ih k))
+    go true false h ih k = absurd (let z : _≡_ {A = ℕ} 0 1 = cc (digits-none t) in omega arith)
+    go false b h ih k = absurd (let z : _≡_ {A = ℕ} 0 1 = cc (digits-none t) in omega arith)
+
+-- up to 18 digits
+natural-few : (l : List ℕ) → length l ≤ 18 → atMost 999999999999999999 (natural l) ≡ natural l
+unfolding natural
+natural-few [] h = refl
+natural-few (x ∷ t) h = go (digits (some 0) (x ∷ t)) (digits-small (x ∷ t) 0)
+  where
+    go : (o : Option ℕ) → ((w : ℕ) → o ≡ some w → w < (0 + 1) * 10 ^ length (x ∷ t)) → atMost 999999999999999999 o ≡ o
+    go none k = refl
+    go (some w) k =
+        let g : w ≤ 999999999999999999 = omega (arith, k w refl, pow-le-pow-right {n = 10} (omega arith) {i = length (x ∷ t)} {j = 18} h) in
+        rw (le-leb w 999999999999999999 g)
+
+module _ {s : List ℕ} {from to : ℕ} (p : Part s from to) (n : ℕ) where
+  size : length (slice from to s) ≡ to - from
+  size = length-slice from to s (p .within)
+
+  pub decimal-long : n < to - from → none ≡ digitsTo n (slice from to s)
+  unfolding digitsTo
+  decimal-long h = rw (size, lt-leb _ _ h)
+
+  pub decimal-few : n ≤ 18 → to - from ≤ n → atMost 999999999999999999 (natural (slice from to s)) ≡ digitsTo n (slice from to s)
+  unfolding digitsTo
+  decimal-few k h =
+      let l : length (slice from to s) ≤ n = omega (arith, size) in
+      natural-few (slice from to s) (omega arith) ∙ rw (le-leb _ _ l)
 
 -- ---- the sign
 

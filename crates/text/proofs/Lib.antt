@@ -1,4 +1,5 @@
 -- The laws that belong to no one function, and the worked examples.
+pub mod Answers
 pub mod Laws
 pub mod Same
 pub mod Parts

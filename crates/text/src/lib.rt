@@ -3,7 +3,7 @@
 // A place is an index of the lent bytes, and a part is from..to of them.
 ghost use mathlib.Core.Path.{_≡_};
 ghost use mathlib.Core.List.{[], _∷_};
-ghost use Prim.Native.Nat.{_+_, _-_, _<_, _≤_};
+ghost use Prim.Native.Nat.{_+_, _-_, _^_, _<_, _≤_};
 ghost use lib.ListN.{length};
 ghost use lib.Seq.{slice};
 ghost use Rattle.text.specs.Text.{same, has, split};
@@ -91,38 +91,10 @@ fn digit(x: u8) -> u64
     (x - 48) as u64
 }
 
-// The number that the 1 to n digits of s in from..to write.
-pub fn decimal(s: &[u8], from: usize, to: usize, n: usize) -> Number
-    requires { ⌜ Part (now s) from to ⌝ }
-    requires { ⌜ n ≤ 19 ⌝ }
-    ensures { λ r. ⌜ numberOf r ≡ digitsTo n (slice from to (now (s .entry))) ⌝ }
-{
-    if from == to {
-        return Number::Bad;
-    }
-    if n < to - from {
-        return Number::Bad;
-    }
-    let mut v: u64 = 0;
-    let mut i = from;
-    while i < to {
-        let d = s[i];
-        if d < 48 {
-            return Number::Bad;
-        }
-        if 57 < d {
-            return Number::Bad;
-        }
-        v = v * 10 + digit(d);
-        i += 1;
-    }
-    Number::Is(v)
-}
-
 // The number that the digits of s in from..to write, however many, where it is not above hi.
 fn magnitude(s: &[u8], from: usize, to: usize, hi: u64) -> Number
     requires { ⌜ Part (now s) from to ⌝ }
-    requires { ⌜ hi ≤ 0x8000_0000 ⌝ }
+    requires { ⌜ hi < 10 ^ 18 ⌝ }
     ensures { λ r. ⌜ numberOf r ≡ atMost hi (natural (slice from to (now (s .entry)))) ⌝ }
 {
     if from == to {
@@ -146,6 +118,18 @@ fn magnitude(s: &[u8], from: usize, to: usize, hi: u64) -> Number
         i += 1;
     }
     Number::Is(v)
+}
+
+// The number that the 1 to n digits of s in from..to write.
+pub fn decimal(s: &[u8], from: usize, to: usize, n: usize) -> Number
+    requires { ⌜ Part (now s) from to ⌝ }
+    requires { ⌜ n ≤ 18 ⌝ }
+    ensures { λ r. ⌜ numberOf r ≡ digitsTo n (slice from to (now (s .entry))) ⌝ }
+{
+    if n < to - from {
+        return Number::Bad;
+    }
+    magnitude(s, from, to, 999_999_999_999_999_999)
 }
 
 // A magnitude with its sign.

@@ -1,12 +1,7 @@
 -- The text's refusals, no room, or what the signal says. Assumes nothing.
-use mathlib.Core.Path.{_≡_, _∙_, refl, sym, ap, subst}
-use mathlib.Core.List.{List}
-use Prim.Native.Nat.{ℕ}
-use native.Mathlib.Omega.{arith}
+use mathlib.Core.Path.{_∙_, refl, sym, ap, subst}
 use borrow.Author.Needs.{needs}
-use Rattle.text.specs.Answer.{Refused, Got}
-use Rattle.signal.specs.Signal.{signalAlone}
-use Rattle.signal.specs.Read.{aloneOf, AloneAs, signalIn}
+use Rattle.signal.specs.Read.{aloneOf, AloneAs}
 use Rattle.signal.specs.declared.SignalAlone.the-variants.{Alone}
 use Rattle.position_book.proofs.Laws.{signal-case, signal-refused, signal-short, signal-done}
 use Rattle.position_book.proofs.position_book_signal.Statement.{statement}
