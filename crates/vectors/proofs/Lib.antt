@@ -1,0 +1,2 @@
+-- The proofs of `vectors`.
+pub mod Laws

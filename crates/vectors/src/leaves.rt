@@ -1,0 +1,197 @@
+// A function for each kind of question: it takes the fields behind the letter, asks the leaf, and shows the answer.
+use crate::ask;
+use crate::ask::field;
+use crate::show;
+use crate::show::next;
+use position_book::position_book_operate;
+use position_book::position_book_operate_name;
+use position_book::position_book_signal;
+use signal::ValueRead;
+use text::Int;
+use text::Number;
+
+// B|bits: the number that the eight bytes hold, and what the first two and four of them hold.
+pub fn bytes(s: &[u8]) {
+    let mut space = [0u8; 16];
+    le::put_u64(&mut space, 3, ask::bits(field(s, 0)));
+    show::number(le::get_u64(&space, 3));
+    next();
+    show::signed(le::get_i64(&space, 3));
+    next();
+    show::number(le::get_u32(&space, 3) as u64);
+    next();
+    show::signed32(le::get_i32(&space, 3));
+    next();
+    show::number(le::get_u16(&space, 3) as u64);
+}
+
+// U|bytes: whether they are UTF-8, given as hexadecimal digits.
+pub fn utf8(s: &[u8]) {
+    let mut space = [0u8; 64];
+    let n = ask::pairs(s, &mut space);
+    show::flag(utf8::valid(&space[..n]));
+}
+
+// N|text: how many parts the underscores make.
+pub fn parts(s: &[u8]) {
+    show::number(text::count_parts(s, 0, s.len(), text::UNDERSCORE) as u64);
+}
+
+// D|digits|limit: the number of 1 to limit digits.
+pub fn decimal(s: &[u8]) {
+    let digits = field(s, 0);
+    let limit = ask::number(field(s, 1));
+    if 18 < limit {
+        return;
+    }
+    match text::decimal(digits, 0, digits.len(), limit as usize) {
+        Number::Is(v) => show::number(v),
+        Number::Bad => show::text(b"-"),
+    }
+}
+
+// I|text: the i32 that it is.
+pub fn int(s: &[u8]) {
+    show_int(text::read_i32(s, 0, s.len()));
+}
+
+// A number by its sign and magnitude: minus nothing is 0.
+fn show_int(i: Int) {
+    match i {
+        Int::Plus(m) => show::number(m),
+        Int::Minus(m) => {
+            if 0 < m {
+                show::text(b"-");
+            }
+            show::number(m);
+        }
+        Int::Not => show::text(b"none"),
+    }
+}
+
+// W|bits: a number in plain decimal and as 16 hexadecimal digits.
+pub fn written(s: &[u8]) {
+    let v = ask::bits(s);
+    let mut decimal = [0u8; 20];
+    let n = text::put_decimal(&mut decimal, 0, v);
+    show::part(&decimal, 0, n);
+    next();
+    let mut hex = [0u8; 16];
+    text::put_hex(&mut hex, 0, v);
+    show::text(&hex);
+}
+
+// O|text: an operate alone.
+pub fn operate(s: &[u8]) {
+    let a = position_book_operate(s);
+    show::number(a.number as u64);
+    next();
+    show::number(a.code as u64);
+}
+
+// C|code: its Chinese name.
+pub fn operate_name(s: &[u8]) {
+    let mut space = [0u8; 16];
+    let code = ask::number(s) % 4294967296;
+    let a = position_book_operate_name(code as u32, &mut space);
+    show::number(a.number as u64);
+    next();
+    show::part(&space, 0, a.length);
+}
+
+// Shows n bytes of s at `at` behind a bar, and answers the place behind them.
+fn piece(s: &[u8], at: usize, n: usize) -> usize {
+    next();
+    if s.len() < at {
+        return at;
+    }
+    if s.len() - at < n {
+        return at;
+    }
+    show::part(s, at, at + n);
+    at + n
+}
+
+// S|text: a signal alone: its number, key, values and score.
+pub fn signal(s: &[u8]) {
+    let mut space = io::large_buffer();
+    let a = position_book_signal(s, &mut space);
+    show::number(a.number as u64);
+    let p = piece(&space, 0, a.key);
+    let q = piece(&space, p, a.v1);
+    let r = piece(&space, q, a.v2);
+    piece(&space, r, a.v3);
+    next();
+    show::number(a.score);
+}
+
+// V|text: a bar's value: its three parts and its score.
+pub fn value(s: &[u8]) {
+    match signal::read_value(s) {
+        ValueRead::Counts(v) => {
+            let score = v.score;
+            show::part(s, 0, v.v1);
+            next();
+            show::part(s, v.v1 + 1, v.v2);
+            next();
+            show::part(s, v.v2 + 1, v.v3);
+            next();
+            show_int(score);
+        }
+        ValueRead::Absent => show::text(b"-"),
+    }
+}
+
+// F|bits: whether the double is finite.
+pub fn finite(s: &[u8]) {
+    show::flag(double::is_finite(ask::real(s)));
+}
+
+// R|bits: rounded to a whole number.
+pub fn round(s: &[u8]) {
+    show::real(double::round_away(ask::real(s)));
+}
+
+// H|own|next: a hold's yield.
+pub fn hold_yield(s: &[u8]) {
+    let own = ask::real(field(s, 0));
+    let later = ask::real(field(s, 1));
+    show::yields(double::hold_yield(own, later));
+}
+
+// P|side|opening|closing: a pair's yield.
+pub fn pair_yield(s: &[u8]) {
+    let side = ask::side(field(s, 0));
+    let opening = ask::real(field(s, 1));
+    let closing = ask::real(field(s, 2));
+    show::yields(double::pair_yield(side, opening, closing));
+}
+
+// K|side|stop|reference|price: whether the stop is hit.
+pub fn stop(s: &[u8]) {
+    let side = ask::side(field(s, 0));
+    let stop = ask::real(field(s, 1));
+    let reference = ask::real(field(s, 2));
+    let price = ask::real(field(s, 3));
+    show::flag(double::stop_hit(side, stop, reference, price));
+}
+
+// T|instant|offset: the local time and its day.
+pub fn time(s: &[u8]) {
+    let instant = ask::instant(field(s, 0));
+    let offset = ask::offset(field(s, 1));
+    let local = instant.local(offset);
+    show::signed(local.micros());
+    next();
+    show::signed(local.day());
+}
+
+// E|earlier|later: the whole seconds between two instants, and their days.
+pub fn seconds(s: &[u8]) {
+    let earlier = ask::instant(field(s, 0));
+    let later = ask::instant(field(s, 1));
+    let n = earlier.seconds_to(later);
+    show::signed(n);
+    next();
+    show::real(double::days(n));
+}

@@ -1,0 +1,71 @@
+// Writing answers to standard output.
+use double::Yield;
+use libc::STDOUT_FILENO;
+
+// Bytes as they are.
+pub fn text(s: &[u8]) {
+    io::write_all(STDOUT_FILENO, s);
+}
+
+// The bytes of s in from..to, or nothing where that is no part of s.
+pub fn part(s: &[u8], from: usize, to: usize) {
+    if to < from {
+        return;
+    }
+    if s.len() < to {
+        return;
+    }
+    text(&s[from..to]);
+}
+
+// What stands between two values.
+pub fn next() {
+    text(b"|");
+}
+
+// In plain decimal.
+pub fn number(n: u64) {
+    io::print_decimal(STDOUT_FILENO, n);
+}
+
+// In plain decimal, behind a minus where it is negative.
+pub fn signed(z: i64) {
+    let b = le::of_i64(z);
+    if b < 9223372036854775808 {
+        number(b);
+        return;
+    }
+    text(b"-");
+    number(18446744073709551615 - b + 1);
+}
+
+// The same of an i32.
+pub fn signed32(z: i32) {
+    signed(z as i64);
+}
+
+// 1 or 0.
+pub fn flag(b: bool) {
+    if b {
+        text(b"1");
+    } else {
+        text(b"0");
+    }
+}
+
+// The bits of a double, or `nan`, whose bits are not one number.
+pub fn real(x: f64) {
+    if x != x {
+        text(b"nan");
+        return;
+    }
+    io::print_hex(STDOUT_FILENO, f64::to_bits(x), 16);
+}
+
+// The bits of a yield, or `-` where it is absent.
+pub fn yields(y: Yield) {
+    match y {
+        Yield::Absent => text(b"-"),
+        Yield::Bp(x) => real(x),
+    }
+}
