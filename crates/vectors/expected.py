@@ -144,9 +144,9 @@ def stop_hit(side, stop, reference, price):
 
 
 def stored(text):
-    """The little-endian bytes of a number, read as u64, i64, u32, i32 and u16 from their first on."""
+    """The little-endian bytes of a number, read as u64, i64, u32, i32, u16 and a double from their first on."""
     data = bytes.fromhex(text.decode())[::-1]
-    return joined(*(struct.unpack_from(kind, data)[0] for kind in ("<Q", "<q", "<I", "<i", "<H")))
+    return joined(*(struct.unpack_from(kind, data)[0] for kind in ("<Q", "<q", "<I", "<i", "<H")), bits(struct.unpack("<d", data)[0]))
 
 
 def local_time(instant, offset):
@@ -171,6 +171,8 @@ WHOLE = {
     b"S": signal,
     b"U": lambda s: joined(int(is_utf8(bytes.fromhex(s.decode())))),
     b"V": value,
+    b"X": lambda s: operate(bytes.fromhex(s.decode())),
+    b"Y": lambda s: signal(bytes.fromhex(s.decode())),
     b"W": lambda s: b"%d|%016x" % (int(s, 16), int(s, 16)),
 }
 

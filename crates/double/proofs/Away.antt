@@ -15,7 +15,8 @@ use lib.Ieee.Exact.{HasValue, odd-sign, round-exact}
 use lib.Ieee.Nearest.{div-same}
 use lib.Ieee.Fits.{down-pos, odd-fits, round-fits, round-is}
 use lib.Ieee.Back.{whole-unique}
-use Rattle.double.specs.Double.{half, roundAway, near}
+use Rattle.double.specs.Double.{half, roundAway}
+use Rattle.double.specs.Read.{near}
 
 -- ---- `half` sees only the value of its fraction
 

@@ -1,7 +1,7 @@
 -- Doubles: binary64 of IEEE 754. "Every double operation rounds once, left to right." Assumes nothing.
-use Prim.Native.Nat.{ℕ, _+_, _-_, _*_, _/_, _^_}
+use Prim.Native.Nat.{ℕ, _+_, _*_, _/_}
 use mathlib.Core.Bool.{Bool, true, false, not, cond}
-use lib.Dec.{eqb, ltb}
+use lib.Dec.{eqb}
 use lib.IntN.{ℤ, pos}
 use lib.Ieee.{Float, nan, inf, fin, isNan, binary64, up, down, round, neg, sub, mul, div, lt, ofInt}
 use Rattle.double.specs.declared.Side.{Side}
@@ -40,10 +40,6 @@ unfoldable pub roundAway : Float → Float
 roundAway nan = nan
 roundAway (inf s) = inf s
 roundAway (fin s m e) = round binary64 s (half (m * up e) (down e)) 1
-
--- the same from the fields of a double's bits, e the exponent's, below 1075, and t the digits
-unfoldable pub near : ℕ → ℕ → ℕ
-near e t = cond (ltb e 1022) 0 (((2 ^ 52 + t) / 2 ^ (1074 - e) + 1) / 2)
 
 -- the gain of p over q as a share of q: "close/open - 1 for L, 1 - close/open for S"
 unfoldable pub gain : Side → Float → Float → Float

@@ -1,2 +1,3 @@
 -- The definitions of double arithmetic.
 pub mod Double
+pub mod Read

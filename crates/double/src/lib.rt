@@ -5,7 +5,8 @@ ghost use mathlib.Core.Path.{_≡_};
 ghost use Prim.Native.Nat.{_<_, _≤_, _^_};
 ghost use lib.Ieee.Scale.{finite};
 ghost use lib.Signed.{mag};
-ghost use Rattle.double.specs.Double.{roundAway, near, holdYield, pairYield, stopHit, daysOf};
+ghost use Rattle.double.specs.Double.{roundAway, holdYield, pairYield, stopHit, daysOf};
+ghost use Rattle.double.specs.Read.{near};
 ghost use Rattle.double.specs.Double.{gain as Double·gain};
 
 // The side of a position.

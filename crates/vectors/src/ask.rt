@@ -9,6 +9,7 @@ use text::find;
 ghost use Prim.Native.Nat.{_<_, _≤_, _^_};
 ghost use lib.ListN.{length};
 ghost use lib.Signed.{mag};
+ghost use Rattle.io.specs.Counts.{Counts};
 
 // The field k of s, from 0, or an empty one.
 pub fn field<'a>(s: &'a [u8], k: usize) -> &'a [u8] {
@@ -103,7 +104,7 @@ fn nibble(s: &[u8], at: usize) -> u8
 
 // The bytes that pairs of hexadecimal digits write, as many as there is room for, and their number.
 pub fn pairs(s: &[u8], out: &mut [u8]) -> usize
-    ensures { λ r. ⌜ r ≤ length (now (out .exit)) ⌝ }
+    ensures { λ r. ⌜ Counts r (now (out .exit)) ⌝ }
 {
     let mut i = 0;
     let mut n = 0;

@@ -9,20 +9,57 @@ use position_book::position_book_signal;
 use signal::ValueRead;
 use text::Int;
 use text::Number;
+ghost use mathlib.Core.Path.{_≡_};
+ghost use lib.ListN.{length};
 
-// B|bits: the number that the eight bytes hold, and what the first two and four of them hold.
-pub fn bytes(s: &[u8]) {
+// Eight bytes written somewhere in a buffer.
+fn stored(v: u64) -> [u8; 16]
+    ensures { λ r. ⌜ 16 ≡ length r ⌝ }
+{
     let mut space = [0u8; 16];
-    le::put_u64(&mut space, 3, ask::bits(field(s, 0)));
+    le::put_u64(&mut space, 3, v);
+    space
+}
+
+// A u32, an i32, an i64 and a u16, each written and read again.
+fn u32_again(v: u32) -> u32 {
+    let mut space = [0u8; 8];
+    le::put_u32(&mut space, 1, v);
+    le::get_u32(&space, 1)
+}
+
+fn i32_again(v: i32) -> i32 {
+    let mut space = [0u8; 8];
+    le::put_i32(&mut space, 1, v);
+    le::get_i32(&space, 1)
+}
+
+fn i64_again(v: i64) -> i64 {
+    let mut space = [0u8; 16];
+    le::put_i64(&mut space, 1, v);
+    le::get_i64(&space, 1)
+}
+
+fn u16_again(v: u16) -> u16 {
+    let mut space = [0u8; 8];
+    le::put_u16(&mut space, 1, v);
+    le::get_u16(&space, 1)
+}
+
+// B|bits: what the eight bytes hold as a u64, an i64 and a double, the first four as a u32 and an i32, and the first two as a u16.
+pub fn bytes(s: &[u8]) {
+    let space = stored(ask::bits(s));
     show::number(le::get_u64(&space, 3));
     next();
-    show::signed(le::get_i64(&space, 3));
+    show::signed(i64_again(le::get_i64(&space, 3)));
     next();
-    show::number(le::get_u32(&space, 3) as u64);
+    show::number(u32_again(le::get_u32(&space, 3)) as u64);
     next();
-    show::signed32(le::get_i32(&space, 3));
+    show::signed32(i32_again(le::get_i32(&space, 3)));
     next();
-    show::number(le::get_u16(&space, 3) as u64);
+    show::number(u16_again(le::get_u16(&space, 3)) as u64);
+    next();
+    show::stored(le::get_f64(&space, 3));
 }
 
 // U|bytes: whether they are UTF-8, given as hexadecimal digits.
@@ -99,6 +136,13 @@ pub fn operate_name(s: &[u8]) {
     show::part(&space, 0, a.length);
 }
 
+// X|bytes: an operate alone, given as hexadecimal digits.
+pub fn operate_bytes(s: &[u8]) {
+    let mut space = [0u8; 64];
+    let n = ask::pairs(s, &mut space);
+    operate(&space[..n]);
+}
+
 // Shows n bytes of s at `at` behind a bar, and answers the place behind them.
 fn piece(s: &[u8], at: usize, n: usize) -> usize {
     next();
@@ -123,6 +167,13 @@ pub fn signal(s: &[u8]) {
     piece(&space, r, a.v3);
     next();
     show::number(a.score);
+}
+
+// Y|bytes: a signal alone, given as hexadecimal digits.
+pub fn signal_bytes(s: &[u8]) {
+    let mut space = [0u8; 64];
+    let n = ask::pairs(s, &mut space);
+    signal(&space[..n]);
 }
 
 // V|text: a bar's value: its three parts and its score.

@@ -33,6 +33,8 @@ fn answer(s: &[u8]) {
         b'U' => leaves::utf8(rest),
         b'V' => leaves::value(rest),
         b'W' => leaves::written(rest),
+        b'X' => leaves::operate_bytes(rest),
+        b'Y' => leaves::signal_bytes(rest),
         _ => show::text(b"?"),
     }
 }

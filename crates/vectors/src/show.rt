@@ -1,5 +1,6 @@
 // Writing answers to standard output.
 use double::Yield;
+use le::Real;
 use libc::STDOUT_FILENO;
 
 // Bytes as they are.
@@ -59,7 +60,17 @@ pub fn real(x: f64) {
         text(b"nan");
         return;
     }
-    io::print_hex(STDOUT_FILENO, f64::to_bits(x), 16);
+    let mut space = [0u8; 8];
+    le::put_f64(&mut space, 0, x);
+    io::print_hex(STDOUT_FILENO, le::get_u64(&space, 0), 16);
+}
+
+// The same of what eight bytes hold.
+pub fn stored(r: Real) {
+    match r {
+        Real::Value(x) => real(x),
+        Real::Nan => text(b"nan"),
+    }
 }
 
 // The bits of a yield, or `-` where it is absent.

@@ -4,6 +4,7 @@ use native.Mathlib.Omega.{arith}
 use borrow.Author.Needs.{needs}
 use Prim.Native.Nat.{_≤_, _-_}
 use mathlib.Core.Path.{_≡_}
+use Rattle.vectors.proofs.Laws.{counts}
 use Rattle.vectors.proofs.ask.pairs.Statement.{statement}
 use Rattle.vectors.proofs.ask.pairs.Tie as tie
 
@@ -16,6 +17,12 @@ abbrev μ-loop : tie.MeasureT-loop
 loop-again : tie.Need-loop-again Inv-loop μ-loop
 loop-again c = (omega arith, simp length-set (omega arith), simp length-set (omega arith))
 
+returns : tie.Need-returns Inv-loop μ-loop
+returns c = counts (c .before .before .loop .n) _ (c .before .before .loop .inv .1)
+
+returns-2 : tie.Need-returns-2 Inv-loop μ-loop
+returns-2 c = counts (c .before .loop .n) _ (c .before .loop .inv .1)
+
 pub pairs-spec : {M : Type 1} → statement M
 pairs-spec =
     tie.close
@@ -25,7 +32,7 @@ pairs-spec =
     (λ c. search needs)
     (λ c. search needs)
     (λ c. search needs)
-    (λ c. search needs)
+    returns
     (λ c κs. search needs)
     (λ c. search needs)
     (λ c. search needs)
@@ -37,4 +44,4 @@ pairs-spec =
     (λ c. search needs)
     loop-again
     (λ c. search needs)
-    (λ c. search needs))
+    returns-2)

@@ -1,11 +1,12 @@
 -- `vectors::show::real` is safe: a double that equals itself has bits. Assumes nothing.
-use Rattle.double.proofs.Tests.{number}
+use native.Mathlib.Omega.{arith}
 use borrow.Author.Needs.{needs}
+use Rattle.double.proofs.Tests.{number}
 use Rattle.vectors.proofs.show.real.Statement.{statement}
 use Rattle.vectors.proofs.show.real.Tie as tie
 
-float-to-bits-print-hex : tie.Need-float-to-bits-print-hex
-float-to-bits-print-hex c = number (c .before .args .x) (c .if1 .left)
+put-f64-requires : tie.Need-put-f64-requires
+put-f64-requires c κs = (omega arith, number (c .before .before .args .x) (c .before .if1 .left))
 
 pub real-spec : {M : Type 1} → statement M
 real-spec =
@@ -14,6 +15,9 @@ real-spec =
     (λ c. search needs)
     (λ c κs. search needs)
     (λ c. search needs)
-    float-to-bits-print-hex
+    (λ c. search needs)
+    put-f64-requires
+    (λ c. search needs)
+    (λ c κs. search needs)
     (λ c κs. search needs)
     (λ c. search needs))
