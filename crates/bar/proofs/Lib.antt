@@ -3,3 +3,4 @@ pub mod Diff
 pub mod Steps
 pub mod Laws
 pub mod Examples
+pub mod Opened

@@ -1,2 +1,3 @@
--- The definitions of a bar's times.
+-- The definitions of a bar and its times.
 pub mod Time
+pub mod Bar

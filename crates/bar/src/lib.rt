@@ -1,4 +1,4 @@
-// A bar's times: instants, local times, days and the seconds between two instants.
+// A bar and its times: instants, local times, days and the seconds between two instants.
 ghost use mathlib.Core.Path.{_≡_};
 ghost use Prim.Native.Nat.{_<_, _^_};
 ghost use lib.Signed.{mag};
@@ -9,6 +9,19 @@ pub struct Instant(pub i64);
 
 // Microseconds from 1970 of the wall clock. Only an instant with its offset becomes one: the field is private.
 pub struct LocalTime(i64);
+
+// An instant, with the offset of its wall clock in seconds.
+pub struct Time {
+    pub instant: Instant,
+    pub offset: i32,
+}
+
+// A bar: its number, its time and its price.
+pub struct Bar {
+    pub id: u32,
+    pub time: Time,
+    pub price: f64,
+}
 
 impl Instant {
     // The wall clock's time at this instant, for an offset in seconds.

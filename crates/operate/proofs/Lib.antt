@@ -1,3 +1,4 @@
 -- Laws of operates.
 pub mod Laws
 mod Examples
+pub mod Opened

@@ -17,6 +17,22 @@ latin = bytes "HL" ∷ bytes "HS" ∷ bytes "HO" ∷ bytes "LO" ∷ bytes "LE" �
 unfoldable pub chinese : List (List ℕ)
 chinese = bytes "持多" ∷ bytes "持空" ∷ bytes "持币" ∷ bytes "开多" ∷ bytes "平多" ∷ bytes "开空" ∷ bytes "平空" ∷ []
 
+-- the codes that the machine asks for
+abbrev pub HO : ℕ
+HO = 2
+
+abbrev pub LO : ℕ
+LO = 3
+
+abbrev pub LE : ℕ
+LE = 4
+
+abbrev pub SO : ℕ
+SO = 5
+
+abbrev pub SE : ℕ
+SE = 6
+
 -- the first code from k on whose spellings, of which the lists hold the rest, have s among them
 unfoldable pub codeFrom : ℕ → List ℕ → List (List ℕ) → List (List ℕ) → Option ℕ
 codeFrom k s [] cs = none

@@ -3,18 +3,10 @@ use mathlib.Core.Path.{_≡_, refl}
 use mathlib.Core.Option.{none, some}
 use lib.IntN.{negsuc}
 use Rattle.text.specs.Answer.{Refused, Got}
-use Rattle.text.specs.Literal.{bytes, encoded}
-use Rattle.text.specs.Text.{same, has, onto, split, joined}
-use Rattle.text.specs.Number.{digits, natural, i32Of}
-use Rattle.utf8.specs.Utf8.{after, step, right, utf8}
-use Rattle.utf8.specs.Alone.{text, alone}
-use Rattle.signal.specs.Signal.{wildcard, withoutWild, keyOf, signalOf, signalAlone}
+use Rattle.text.specs.Literal.{bytes}
+use Rattle.signal.specs.Signal.{keyOf, signalOf, signalAlone}
 use Rattle.signal.specs.Value.{valueOf}
-
--- opens what a signal is worked out with
-unfoldable opened : Unit {0}
-unfolding bytes encoded same has onto split joined digits natural i32Of after step right utf8 text alone wildcard withoutWild keyOf signalOf signalAlone valueOf
-opened = tt
+use Rattle.signal.proofs.Opened.{opened}
 
 -- case *1's first clause
 whole : signalAlone (bytes "d1_u_w_up_任意_任意_10")

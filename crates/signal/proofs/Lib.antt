@@ -3,3 +3,4 @@ pub mod Parts
 pub mod Keys
 pub mod Says
 mod Examples
+pub mod Opened

@@ -8,3 +8,4 @@ pub mod Put
 pub mod Written
 pub mod Hex
 mod Examples
+pub mod Opened

@@ -22,3 +22,13 @@ must n false = Refused n
 abbrev pub given : {X : Type 0} → ℕ → Option X → Answer X
 given n none = Refused n
 given n (some x) = Got x
+
+-- the number to return: 0 is done
+abbrev pub number : {X : Type 0} → Answer X → ℕ
+number (Refused n) = n
+number (Got x) = 0
+
+-- what was got, or else d: a refusal leaves what was there
+abbrev pub orElse : {X : Type 0} → X → Answer X → X
+orElse d (Refused n) = d
+orElse d (Got x) = x

@@ -3,4 +3,5 @@ pub mod Answer
 pub mod Literal
 pub mod Text
 pub mod Number
+pub mod Conditions
 pub mod Read

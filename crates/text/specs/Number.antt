@@ -4,8 +4,9 @@ use mathlib.Core.Bool.{Bool, cond, _&&_}
 use mathlib.Core.List.{List, [], _∷_}
 use mathlib.Core.Option.{Option, none, some}
 use lib.Dec.{leb, ltb, eqb}
-use lib.IntN.{ℤ, pos, negℤ}
+use lib.IntN.{ℤ, pos, negsuc, negℤ}
 use lib.ListN.{length}
+use Rattle.text.specs.Answer.{Answer, given}
 
 abbrev pub within : ℕ → ℕ → ℕ → Bool
 within lo hi x = leb lo x && leb x hi
@@ -33,6 +34,10 @@ atMost hi (some v) = cond (leb v hi) (some v) none
 unfoldable pub digitsTo : ℕ → List ℕ → Option ℕ
 digitsTo n s = cond (leb (length s) n) (natural s) none
 
+-- "Unsigned fields are 1 to 10 decimal digits": 3 where one is malformed or above hi
+unfoldable pub unsigned : ℕ → List ℕ → Answer ℕ
+unsigned hi s = given 3 (atMost hi (digitsTo 10 s))
+
 abbrev pub plus : Option ℕ → Option ℤ
 plus none = none
 plus (some v) = some (pos v)
@@ -48,6 +53,11 @@ i32Of (x ∷ t) =
     cond (eqb x 43) (plus (atMost 0x7fff_ffff (natural t)))
     (cond (eqb x 45) (minus (atMost 0x8000_0000 (natural t))) (plus (atMost 0x7fff_ffff (natural (x ∷ t)))))
 
+-- 1 to n decimal digits, "perhaps after `-`"
+unfoldable pub signedTo : ℕ → List ℕ → Option ℤ
+signedTo n [] = none
+signedTo n (x ∷ t) = cond (eqb x 45) (minus (digitsTo n t)) (plus (digitsTo n (x ∷ t)))
+
 -- plain decimal: n has at most k digits, written in front of l
 unfoldable pub decimalFrom : ℕ → ℕ → List ℕ → List ℕ
 decimalFrom zero n l = l
@@ -56,6 +66,11 @@ decimalFrom (suc k) n l = let more = decimalFrom k (n / 10) ((48 + n % 10) ∷ l
 -- "numbers in plain decimal"
 unfoldable pub decimalOf : ℕ → List ℕ
 decimalOf n = decimalFrom (suc n) n []
+
+-- with a `-` in front where it is below 0
+unfoldable pub integerOf : ℤ → List ℕ
+integerOf (pos n) = decimalOf n
+integerOf (negsuc n) = 45 ∷ decimalOf (suc n)
 
 -- a digit below 16: 0 to 9, then a to f
 abbrev pub hexDigit : ℕ → ℕ

@@ -3,6 +3,7 @@ use Prim.Native.Nat.{ℕ}
 use mathlib.Core.Bool.{Bool, true, false, cond, _&&_, _||_}
 use mathlib.Core.List.{List, [], _∷_, _++_}
 use lib.Dec.{eqb}
+use Rattle.text.specs.Answer.{Answer, Refused, Got, _>>=_}
 
 -- "in lines ended by LF"
 abbrev pub LF : ℕ
@@ -28,6 +29,16 @@ unfoldable pub has : ℕ → List ℕ → Bool
 has b [] = false
 has b (x ∷ s) = eqb x b || has b s
 
+abbrev pub empty {ℓ} : {X : Type ℓ} → List X → Bool
+empty [] = true
+empty (x ∷ s) = false
+
+-- whether the text t begins with s
+unfoldable pub begins : List ℕ → List ℕ → Bool
+begins [] t = true
+begins (x ∷ s) [] = false
+begins (x ∷ s) (y ∷ t) = eqb x y && begins s t
+
 -- x in front of the first part
 unfoldable pub onto : ℕ → List (List ℕ) → List (List ℕ)
 onto x [] = (x ∷ []) ∷ []
@@ -43,3 +54,10 @@ unfoldable pub joined : List ℕ → List (List ℕ) → List ℕ
 joined s [] = []
 joined s (p ∷ []) = p
 joined s (p ∷ q ∷ ps) = p ++ s ++ joined s (q ∷ ps)
+
+-- Line by line, each handed over as its fields. The parts are those between LFs: the last of them stands behind the last LF, and
+-- is a line without an LF where it is not empty. "A missing last LF counts at its line" (2).
+unfoldable pub eachLine : {X : Type 0} → (X → List (List ℕ) → Answer X) → X → List (List ℕ) → Answer X
+eachLine f x [] = Got x
+eachLine f x (p ∷ []) = cond (empty p) (Got x) (Refused 2)
+eachLine f x (p ∷ q ∷ ps) = f x (split pipe p) >>= λ y. eachLine f y (q ∷ ps)

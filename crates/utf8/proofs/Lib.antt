@@ -2,3 +2,4 @@
 pub mod Laws
 pub mod Joined
 mod Examples
+pub mod Opened
