@@ -3,10 +3,11 @@ use Prim.Native.Nat.{ℕ}
 use mathlib.Core.Path.{_≡_, refl}
 use mathlib.Core.Bool.{true, false}
 use lib.IntN.{pos}
-use lib.Ieee.{inf, binary64, ofBits, toBits, round, ofInt, neg, sub, mul, div, lt}
+use lib.Ieee.{inf, binary64, ofBits, toBits, neg}
 use Rattle.double.specs.declared.Side.the-variants.{Long, Short}
 use Rattle.double.specs.declared.Yield.the-variants.{Absent, Bp}
-use Rattle.double.specs.Double.{whole, roundAway, gain, holdYield, pairYield, stopHit, daysOf}
+use Rattle.double.specs.Double.{whole, roundAway, holdYield, pairYield, stopHit, daysOf}
+use Rattle.double.proofs.Opened.{opened}
 
 -- rounding, from bits to bits
 unfoldable rounded : ℕ → ℕ
@@ -14,53 +15,53 @@ rounded b = toBits binary64 (roundAway (ofBits binary64 b))
 
 -- case *10: 2.5 gives 3, and -2.5 gives -3
 case-10 : (rounded 0x4004_0000_0000_0000 ≡ 0x4008_0000_0000_0000) × (rounded 0xc004_0000_0000_0000 ≡ 0xc008_0000_0000_0000)
-unfolding rounded roundAway round ofBits toBits
+unfolding rounded opened
 case-10 = (refl, refl)
 
 -- -0.3 gives -0, the last double below 0.5 gives 0, and 0.5 gives 1
 small : (rounded 0xbfd3_3333_3333_3333 ≡ 0x8000_0000_0000_0000) × (rounded 0x3fdf_ffff_ffff_ffff ≡ 0) × (rounded 0x3fe0_0000_0000_0000 ≡ 0x3ff0_0000_0000_0000)
-unfolding rounded roundAway round ofBits toBits
+unfolding rounded opened
 small = (refl, refl, refl)
 
 -- 2251799813685249.5 gives 2251799813685250, and 4503599627370497 stays
 large : (rounded 0x4320_0000_0000_0003 ≡ 0x4320_0000_0000_0004) × (rounded 0x4330_0000_0000_0001 ≡ 0x4330_0000_0000_0001)
-unfolding rounded roundAway round ofBits toBits
+unfolding rounded opened
 large = (refl, refl)
 
 -- infinities stay
 endless : (rounded 0x7ff0_0000_0000_0000 ≡ 0x7ff0_0000_0000_0000) × (rounded 0xfff0_0000_0000_0000 ≡ 0xfff0_0000_0000_0000)
-unfolding rounded roundAway round ofBits toBits
+unfolding rounded opened
 endless = (refl, refl)
 
 -- from 100 to 125, and from a price that is not above 0
 hold-yields : (holdYield (whole 100) (whole 125) ≡ Bp (whole 2500)) × (holdYield (whole 0) (whole 125) ≡ Absent) × (holdYield (neg (whole 1)) (whole 125) ≡ Absent)
-unfolding holdYield gain ofInt neg sub mul div lt
+unfolding opened
 hold-yields = (refl, refl, refl)
 
 pair-yields : (pairYield Long (whole 100) (whole 125) ≡ Bp (whole 2500)) × (pairYield Short (whole 100) (whole 125) ≡ Bp (neg (whole 2500)))
-unfolding pairYield roundAway gain ofInt neg sub mul div
+unfolding opened
 pair-yields = (refl, refl)
 
 -- opened at 0 or -0
 no-pair-yield : (pairYield Long (whole 0) (whole 125) ≡ Absent) × (pairYield Short (neg (whole 0)) (whole 125) ≡ Absent)
-unfolding pairYield ofInt neg
+unfolding opened
 no-pair-yield = (refl, refl)
 
 -- from the least double above 0 to 1e308
 endless-yields : (pairYield Long (ofBits binary64 1) (ofBits binary64 0x7fe1_ccf3_85eb_c8a0) ≡ Bp (inf false)) × (pairYield Short (ofBits binary64 1) (ofBits binary64 0x7fe1_ccf3_85eb_c8a0) ≡ Bp (inf true))
-unfolding pairYield roundAway gain ofBits ofInt neg sub mul div
+unfolding opened
 endless-yields = (refl, refl)
 
 -- a stop of 2500 basis points and the reference 128: 96 and 160 are on the stop, which does not pass; 95 and 161 are past it
 long-stops : (stopHit Long (whole 2500) (whole 128) (whole 96) ≡ false) × (stopHit Long (whole 2500) (whole 128) (whole 95) ≡ true)
-unfolding stopHit gain ofInt neg sub div lt
+unfolding opened
 long-stops = (refl, refl)
 
 short-stops : (stopHit Short (whole 2500) (whole 128) (whole 160) ≡ false) × (stopHit Short (whole 2500) (whole 128) (whole 161) ≡ true)
-unfolding stopHit gain ofInt neg sub div lt
+unfolding opened
 short-stops = (refl, refl)
 
 -- a day and a half
 some-days : daysOf (pos 129_600) ≡ ofBits binary64 0x3ff8_0000_0000_0000
-unfolding daysOf ofInt ofBits div
+unfolding opened
 some-days = refl

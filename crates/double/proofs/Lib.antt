@@ -2,5 +2,9 @@
 pub mod Constants
 pub mod Tests
 pub mod Away
+pub mod Branches
+pub mod Signs
 pub mod Numbers
+pub mod OwnPrice
 pub mod Examples
+pub mod Opened

@@ -1,41 +1,31 @@
 -- No yield of finite prices is a NaN. Assumes nothing.
-use Prim.Native.Nat.{ℕ, zero, suc, _+_, _-_, _*_, _^_, _<_}
+use Prim.Native.Nat.{ℕ, zero, suc, _+_, _-_, _*_, _<_}
 use mathlib.Core.Path.{_≡_, refl, sym, subst}
 use mathlib.Core.Bool.{Bool, true, false, not, _&&_, _||_, Bool·beq, cond}
 use lib.Dec.{T, ltb, ltb→lt, eqb·suc-zero}
 use native.Mathlib.Omega.{arith}
-use lib.Ieee.{Float, Format, nan, inf, fin, binary64, isNan, round, units, odd, sum, add, sub, mul, div, neg, lt, up, down, low, prec, emax, unlike, ofInt}
-use lib.Ieee.Fits.{round-is}
+use lib.Ieee.{Float, Format, nan, inf, fin, binary64, isNan, round, sum, add, sub, mul, div, neg, lt, up, down, unlike, ofInt}
 use lib.Ieee.Scale.{finite}
 use Rattle.double.specs.declared.Side.{Side}
 use Rattle.double.specs.declared.Side.the-variants.{Long, Short}
 use Rattle.double.specs.declared.Yield.the-variants.{Absent, Bp}
 use Rattle.double.specs.Double.{whole, _−_, _×ᶠ_, _÷_, isZero, half, roundAway, gain, holdYield, pairYield, yieldOk}
+use Rattle.double.proofs.Branches.{both}
+use Rattle.double.proofs.Signs.{Signed, round-signed}
 
 abbrev Number : Float → Type 0
 Number x = T (not (isNan x))
 
 -- ---- what is rounded is a number
 
-odd-number : (d : ℕ) (s : Bool) (q k l : ℕ) → Number (odd d s q k l)
-unfolding odd isNan
-odd-number d s zero k l = tt
-odd-number d s (suc q) k l = tt
-
-cond-number : (b : Bool) (x y : Float) → Number x → Number y → Number (cond b x y)
-cond-number true x y p q = p
-cond-number false x y p q = q
-
-inf-number : (s : Bool) → Number (inf s)
+signed-number : (s : Bool) (x : Float) → Signed s x → Number x
 unfolding isNan
-inf-number s = tt
-
-units-number : (f : Format) (s : Bool) (q k : ℕ) → Number (units f s q k)
-unfolding units
-units-number f s q k = cond-number (ltb (q * 2 ^ k) (2 ^ (low f + suc (emax f)))) (odd (suc (prec f)) s q k (low f)) (inf s) (odd-number (suc (prec f)) s q k (low f)) (inf-number s)
+signed-number s nan h = h
+signed-number s (inf t) h = tt
+signed-number s (fin t m e) h = tt
 
 round-number : (f : Format) (s : Bool) (a b : ℕ) → Number (round f s a b)
-round-number f s a b = subst Number (sym (round-is f s a b)) (units-number f s _ _)
+round-number f s a b = signed-number s (round f s a b) (round-signed f s a b)
 
 sum-number : (f : Format) (s : Bool) (a : ℕ) (t : Bool) (b c : ℕ) → Number (sum f s a t b c)
 unfolding sum
@@ -43,7 +33,7 @@ sum-number f s a t b c =
     let r = round f s (a + b) c in
     let u = round f t (b - a) c in
     let v = round f (s && ltb b a) (a - b) c in
-    cond-number (Bool·beq s t) r (cond (ltb a b) u v) (round-number f s (a + b) c) (cond-number (ltb a b) u v (round-number f t (b - a) c) (round-number f (s && ltb b a) (a - b) c))
+    both Number (Bool·beq s t) r (cond (ltb a b) u v) (round-number f s (a + b) c) (both Number (ltb a b) u v (round-number f t (b - a) c) (round-number f (s && ltb b a) (a - b) c))
 
 -- ---- each operation
 
