@@ -1,0 +1,3 @@
+-- The laws of matching.
+pub mod Opened
+mod Examples

@@ -1,0 +1,119 @@
+-- Worked examples of sheets, computed from the definitions: what is read, and the order of refusals. Assumes nothing.
+use Prim.Native.Nat.{ℕ, zero, suc}
+use mathlib.Core.Bool.{true, false}
+use mathlib.Core.List.{List, [], _∷_, _++_}
+use mathlib.Core.Path.{_≡_, refl}
+use lib.ListN.{replicate}
+use Rattle.text.specs.Answer.{Answer, Refused, Got, _>>=_}
+use Rattle.text.specs.Literal.{bytes}
+use Rattle.operate.specs.Operate.{LO, LE}
+use Rattle.sheet.specs.Sheet.{All, Any, Not, Sheet, clauseCount}
+use Rattle.sheet.specs.Read.{readSheet}
+use Rattle.sheet.proofs.Opened.{opened}
+
+-- a first line, and what follows it
+abbrev after : List ℕ → Answer Sheet
+after l = readSheet (bytes "P|n|s|0|0|0|0\n" ++ l)
+
+-- n times the text
+unfoldable times : ℕ → List ℕ → List ℕ
+times zero l = []
+times (suc n) l = l ++ times n l
+
+-- ---- what is read
+
+-- the clauses stay in the order of their lines, each with its kind
+in-order : after (bytes "O|开多|a\nN|a_b_c_1_2_3_4\nA|a_b_c_5_任意_7_8\nY|任意_b_c_1_2_3_4\nX|LE|b\n")
+    ≡ Got (record {
+      name = bytes "n";
+      symbol = bytes "s";
+      interval = 0;
+      timeout = 0;
+      stop = 0;
+      t0 = false;
+      events =
+          record {
+            exit = false;
+            operate = LO;
+            name = bytes "a";
+            clauses =
+                record { kind = Not; signal = record { key = bytes "a_b_c"; v1 = bytes "1"; v2 = bytes "2"; v3 = bytes "3"; score = 4 } }
+                ∷ record { kind = All; signal = record { key = bytes "a_b_c"; v1 = bytes "5"; v2 = bytes "任意"; v3 = bytes "7"; score = 8 } }
+                ∷ record { kind = Any; signal = record { key = bytes "b_c"; v1 = bytes "1"; v2 = bytes "2"; v3 = bytes "3"; score = 4 } }
+                ∷ [];
+          }
+          ∷ record { exit = true; operate = LE; name = bytes "b"; clauses = [] }
+          ∷ [];
+    })
+unfolding opened
+in-order = refl
+
+-- every limit, with zeros in front; empty names
+at-limits : readSheet (bytes "P|||4102444800|2147483647|0001000000|01\n")
+    ≡ Got (record { name = []; symbol = []; interval = 4_102_444_800; timeout = 2_147_483_647; stop = 1_000_000; t0 = true; events = [] })
+unfolding opened
+at-limits = refl
+
+-- ---- the first line
+
+-- nothing at all, no LF, another tag, a field too few, a field too many
+first-2 : (readSheet [] ≡ Refused 2) × (readSheet (bytes "P|n|s|0|0|0|0") ≡ Refused 2) × (readSheet (bytes "O|LO|a\n") ≡ Refused 2)
+    × (readSheet (bytes "P|n|s|0|0|0\n") ≡ Refused 2) × (readSheet (bytes "P|n|s|0|0|0|0|0\n") ≡ Refused 2)
+unfolding opened
+first-2 = (refl, refl, refl, refl, refl)
+
+-- past each limit; no digit; a sign; eleven digits
+first-3 : (readSheet (bytes "P|n|s|4102444801|0|0|0\n") ≡ Refused 3) × (readSheet (bytes "P|n|s|0|2147483648|0|0\n") ≡ Refused 3)
+    × (readSheet (bytes "P|n|s|0|0|1000001|0\n") ≡ Refused 3) × (readSheet (bytes "P|n|s|0|0|0|2\n") ≡ Refused 3)
+    × (readSheet (bytes "P|n|s||0|0|0\n") ≡ Refused 3) × (readSheet (bytes "P|n|s|+1|0|0|0\n") ≡ Refused 3)
+    × (readSheet (bytes "P|n|s|00000000000|0|0|0\n") ≡ Refused 3)
+unfolding opened
+first-3 = (refl, refl, refl, refl, refl, refl, refl)
+
+-- ---- later lines
+
+-- a second P, an empty line, an O after an X, a clause before any event, a field too many
+later-2 : (after (bytes "P|n|s|0|0|0|0\n") ≡ Refused 2) × (after (bytes "\n") ≡ Refused 2) × (after (bytes "X|LE|a\nO|LO|b\n") ≡ Refused 2)
+    × (after (bytes "A|a_b_c_1_2_3_4\n") ≡ Refused 2) × (after (bytes "O|LO|a|b\n") ≡ Refused 2)
+unfolding opened
+later-2 = (refl, refl, refl, refl, refl)
+
+-- an operate, a signal's parts, its score
+later-456 : (after (bytes "O|lo|a\n") ≡ Refused 4) × (after (bytes "O|LO|a\nA|a_b\n") ≡ Refused 5) × (after (bytes "O|LO|a\nY|a_b_c_1_2_3_101\n") ≡ Refused 6)
+unfolding opened
+later-456 = (refl, refl, refl)
+
+-- ---- two faults: the earlier check decides
+
+-- in one line: place before signal (2 before 5), operate before name (4 before 7), name before number (7 before 3), parts before score
+-- (5 before 6); a missing LF counts at its line, so the line before it decides
+two-faults : (after (bytes "A|a_b\n") ≡ Refused 2) × (after (bytes "O|ZZ|" ++ replicate 257 97 ++ bytes "\n") ≡ Refused 4)
+    × (readSheet (bytes "P|" ++ replicate 257 97 ++ bytes "|s|x|0|0|0\n") ≡ Refused 7) × (after (bytes "O|LO|a\nA|a_b_101\n") ≡ Refused 5)
+    × (after (bytes "O|ZZ|a\nO|LO|a") ≡ Refused 4) × (after (bytes "O|LO|a\nO|ZZ|a") ≡ Refused 2)
+unfolding opened
+two-faults = (refl, refl, refl, refl, refl, refl)
+
+-- text length before UTF-8, UTF-8 before the first line
+whole-text : (readSheet (replicate 16385 255) ≡ Refused 7) × (readSheet (replicate 16384 255) ≡ Refused 1) × (readSheet (255 ∷ []) ≡ Refused 1)
+unfolding opened
+whole-text = (refl, refl, refl)
+
+-- ---- counts
+
+-- 256 bytes of a name, and 257
+names : (after (bytes "O|LO|" ++ replicate 257 97 ++ bytes "\n") ≡ Refused 7)
+    × ((readSheet (bytes "P|" ++ replicate 256 97 ++ bytes "||0|0|0|0\n") >>= λ s. Got (s .name)) ≡ Got (replicate 256 97))
+unfolding opened
+names = (refl, refl)
+
+-- 32 events, and 33; the fields of the 33rd are read first
+events : ((after (times 32 (bytes "O|LO|a\n")) >>= λ s. Got (clauseCount (s .events))) ≡ Got 0)
+    × (after (times 33 (bytes "O|LO|a\n")) ≡ Refused 7) × (after (times 32 (bytes "O|LO|a\n") ++ bytes "O|ZZ|a\n") ≡ Refused 4)
+unfolding opened times
+events = (refl, refl, refl)
+
+-- 256 clauses, and 257
+clauses : ((after (bytes "X|LE|a\n" ++ times 256 (bytes "A|______0\n")) >>= λ s. Got (clauseCount (s .events))) ≡ Got 256)
+    × (after (bytes "X|LE|a\n" ++ times 257 (bytes "A|______0\n")) ≡ Refused 7)
+unfolding opened times
+clauses = (refl, refl)

@@ -1,0 +1,3 @@
+-- The laws of a position sheet.
+pub mod Opened
+mod Examples

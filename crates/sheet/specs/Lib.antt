@@ -1,0 +1,3 @@
+-- The definitions of a position sheet.
+pub mod Sheet
+pub mod Read

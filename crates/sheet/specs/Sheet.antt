@@ -1,0 +1,63 @@
+-- What a position sheet says. Assumes nothing.
+use Prim.Native.Nat.{ℕ, _+_}
+use mathlib.Core.Bool.{Bool}
+use mathlib.Core.List.{List, [], _∷_}
+use lib.ListN.{length}
+use Rattle.signal.specs.Signal.{Signal}
+
+-- "`A|signal` (all), `Y|signal` (any), `N|signal` (not)"
+pub data Kind : Type 0 where
+  All : Kind
+  Any : Kind
+  Not : Kind
+
+pub record Clause : Type 0 where
+  pub kind : Kind
+  pub signal : Signal
+
+-- "`O|operate|name` (opening) .. `X|operate|name` (exit), any operate in either", with its clauses in the order of their lines
+pub record Event : Type 0 where
+  pub exit : Bool
+  pub operate : ℕ
+  pub name : List ℕ
+  pub clauses : List Clause
+
+-- "`P|name|symbol|interval|timeout|stop|t0`": interval in seconds, timeout in bars, stop in basis points
+pub record Sheet : Type 0 where
+  pub name : List ℕ
+  pub symbol : List ℕ
+  pub interval : ℕ
+  pub timeout : ℕ
+  pub stop : ℕ
+  pub t0 : Bool
+  pub events : List Event
+
+-- how many clauses the events have together
+unfoldable pub clauseCount : List Event → ℕ
+clauseCount [] = 0
+clauseCount (e ∷ es) = length (e .clauses) + clauseCount es
+
+-- ---- the limits
+
+-- "At most 32 events, 256 clauses and 256 bytes a name or symbol."
+abbrev pub eventLimit : ℕ
+eventLimit = 32
+
+abbrev pub clauseLimit : ℕ
+clauseLimit = 256
+
+abbrev pub nameLimit : ℕ
+nameLimit = 256
+
+-- "Interval is 0..4,102,444,800 seconds, timeout 0..2,147,483,647 bars, stop 0..1,000,000 basis points, t0 0 or 1."
+abbrev pub intervalLimit : ℕ
+intervalLimit = 4_102_444_800
+
+abbrev pub timeoutLimit : ℕ
+timeoutLimit = 2_147_483_647
+
+abbrev pub stopLimit : ℕ
+stopLimit = 1_000_000
+
+abbrev pub t0Limit : ℕ
+t0Limit = 1
