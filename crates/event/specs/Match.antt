@@ -20,12 +20,12 @@ valueAt k [] = none
 valueAt k (l ∷ ls) = cond (same k (l .key)) (valueOf (l .value)) (valueAt k ls)
 
 -- "each v is equal or the clause's is wild"
-abbrev pub fits : List ℕ → List ℕ → Bool
-fits own v = same own v || same own wildcard
+abbrev pub agrees : List ℕ → List ℕ → Bool
+agrees own v = same own v || same own wildcard
 
 -- "the score is at least its own, and each v is equal or the clause's is wild"
 unfoldable pub meets : Signal → Value → Bool
-meets c v = leZ (pos (c .score)) (v .score) && fits (c .v1) (v .v1) && fits (c .v2) (v .v2) && fits (c .v3) (v .v3)
+meets c v = leZ (pos (c .score)) (v .score) && agrees (c .v1) (v .v1) && agrees (c .v2) (v .v2) && agrees (c .v3) (v .v3)
 
 abbrev pub metBy : Signal → Option Value → Bool
 metBy c none = false
@@ -51,7 +51,7 @@ isKind Not Any = false
 -- the signals of the clauses of a kind, in the order of their lines
 unfoldable pub ofKind : Kind → List Clause → List Signal
 ofKind k [] = []
-ofKind k (c ∷ cs) = cond (isKind k (c .kind)) (c .signal ∷ ofKind k cs) (ofKind k cs)
+ofKind k (c ∷ cs) = let later = ofKind k cs in cond (isKind k (c .kind)) (c .signal ∷ later) later
 
 -- "An event matches when no N clause holds, all A clauses hold, and some Y clause holds or there is none."
 unfoldable pub matches : List Line → Event → Bool

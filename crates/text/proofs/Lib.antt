@@ -1,7 +1,9 @@
 -- The laws that belong to no one function, and the worked examples.
 pub mod Answers
+pub mod Refusals
 pub mod Laws
 pub mod Same
+pub mod Conditions
 pub mod Parts
 pub mod Digits
 pub mod Put
