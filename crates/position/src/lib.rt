@@ -1,0 +1,76 @@
+// A position: the values of the plain machine. What a bar does to them, the rows that they give and the run program's text are
+// definitions (specs/); no function yet.
+use bar::Bar;
+use bar::Time;
+use double::Yield;
+
+pub enum Pos {
+    Short,
+    Flat,
+    Long,
+}
+
+// The time of the last opening of a side, if there was one.
+pub enum Open {
+    Never,
+    At(Time),
+}
+
+// The bar and the event of an LO or SO.
+pub struct LastEvent {
+    pub bar: Bar,
+    pub operate: u8,
+    pub event: u32,
+}
+
+// The last LO or SO, against which stops and timeouts are taken, if there was one.
+pub enum Reference {
+    Never,
+    At(LastEvent),
+}
+
+// What a bar changes beside the lists of records and holds.
+pub struct Head {
+    pub pos: Pos,
+    pub changed: bool,
+    pub end: Time,
+    pub long: Open,
+    pub short: Open,
+    pub reference: Reference,
+}
+
+// A record's description: an event by its index, a stop, or a timeout.
+pub enum Description {
+    Event(u32),
+    Stop,
+    Timeout,
+}
+
+// An operation: an opening or a closing, with the position after it.
+pub struct Record {
+    pub bar: Bar,
+    pub operate: u8,
+    pub pos: Pos,
+    pub description: Description,
+}
+
+// The position at the end of a bar, and the yield up to the next bar (the Rust's n1b).
+pub struct Hold {
+    pub time: Time,
+    pub pos: Pos,
+    pub price: f64,
+    pub n1b: Yield,
+}
+
+// What decided a bar.
+pub enum Decision {
+    Nothing,
+    By(Description),
+}
+
+// What a feed says of an accepted bar.
+pub struct Report {
+    pub pos: Pos,
+    pub changed: bool,
+    pub decision: Decision,
+}
