@@ -1,0 +1,118 @@
+-- Case *1's table, byte by byte: it means case *1's sheet; and what breaks each condition on a table. Assumes nothing.
+use Prim.Native.Nat.{ℕ}
+use mathlib.Core.Bool.{true, false}
+use mathlib.Core.List.{List, [], _∷_, _++_}
+use mathlib.Core.Path.{_≡_, refl}
+use lib.ListN.{drop, replicate}
+use Rattle.le.specs.Le.{patch}
+use Rattle.le.specs.Field.{put16, put32}
+use Rattle.text.specs.Answer.{Answer, Refused, Got, _>>=_}
+use Rattle.text.specs.Literal.{bytes}
+use Rattle.operate.specs.Operate.{LO, LE}
+use Rattle.sheet.specs.Sheet.{All, Sheet}
+use Rattle.sheet.specs.Read.{readSheet}
+use Rattle.table.specs.Table.{readTable}
+use Rattle.table.proofs.Opened.{opened}
+
+-- ---- case *1
+
+unfoldable pub soy : List ℕ
+soy =
+    -- interval, timeout, stop, t0
+    (0 ∷ 0 ∷ 0 ∷ 0 ∷ 5 ∷ 0 ∷ 0 ∷ 0 ∷ 100 ∷ 0 ∷ 0 ∷ 0 ∷ 0 ∷ 0 ∷ 0 ∷ 0 ∷ [])
+    -- how many events, clauses, keys, values; the lengths of name and symbol
+    ++ (2 ∷ 0 ∷ 0 ∷ 0 ∷ 2 ∷ 0 ∷ 0 ∷ 0 ∷ 1 ∷ 0 ∷ 0 ∷ 0 ∷ 2 ∷ 0 ∷ 0 ∷ 0 ∷ 3 ∷ 0 ∷ 0 ∷ 0 ∷ 2 ∷ 0 ∷ 0 ∷ 0 ∷ [])
+    -- where events, clauses, keys, values, texts, event names, key texts and value texts start; the end
+    ++ (76 ∷ 0 ∷ 0 ∷ 0 ∷ 100 ∷ 0 ∷ 0 ∷ 0 ∷ 124 ∷ 0 ∷ 0 ∷ 0 ∷ 132 ∷ 0 ∷ 0 ∷ 0 ∷ 148 ∷ 0 ∷ 0 ∷ 0 ∷ 153 ∷ 0 ∷ 0 ∷ 0 ∷ 158 ∷ 0 ∷ 0 ∷ 0 ∷ 164 ∷ 0 ∷ 0 ∷ 0 ∷ 170 ∷ 0 ∷ 0 ∷ 0 ∷ [])
+    -- two events: kind, operate, name at, length, first clause, clauses
+    ++ (0 ∷ 0 ∷ 3 ∷ 0 ∷ 153 ∷ 0 ∷ 2 ∷ 0 ∷ 0 ∷ 0 ∷ 1 ∷ 0 ∷ [])
+    ++ (1 ∷ 0 ∷ 4 ∷ 0 ∷ 155 ∷ 0 ∷ 3 ∷ 0 ∷ 1 ∷ 0 ∷ 1 ∷ 0 ∷ [])
+    -- two clauses: kind, key, three values, score
+    ++ (0 ∷ 0 ∷ 0 ∷ 0 ∷ 1 ∷ 0 ∷ 255 ∷ 255 ∷ 255 ∷ 255 ∷ 10 ∷ 0 ∷ [])
+    ++ (0 ∷ 0 ∷ 0 ∷ 0 ∷ 2 ∷ 0 ∷ 255 ∷ 255 ∷ 255 ∷ 255 ∷ 0 ∷ 0 ∷ [])
+    -- one key, two values: text at, length, rank, order
+    ++ (158 ∷ 0 ∷ 6 ∷ 0 ∷ 0 ∷ 0 ∷ 0 ∷ 0 ∷ [])
+    ++ (164 ∷ 0 ∷ 2 ∷ 0 ∷ 1 ∷ 0 ∷ 1 ∷ 0 ∷ [])
+    ++ (166 ∷ 0 ∷ 4 ∷ 0 ∷ 0 ∷ 0 ∷ 0 ∷ 0 ∷ [])
+    ++ bytes "soyM1gooutd1_u_wupdown"
+    ++ replicate 32598 0
+
+unfoldable pub meant : Sheet
+meant =
+    record {
+      name = bytes "soy";
+      symbol = bytes "M1";
+      interval = 0;
+      timeout = 5;
+      stop = 100;
+      t0 = false;
+      events =
+          record {
+            exit = false;
+            operate = LO;
+            name = bytes "go";
+            clauses = record { kind = All; signal = record { key = bytes "d1_u_w"; v1 = bytes "up"; v2 = bytes "任意"; v3 = bytes "任意"; score = 10 } } ∷ [];
+          }
+          ∷ record {
+            exit = true;
+            operate = LE;
+            name = bytes "out";
+            clauses = record { kind = All; signal = record { key = bytes "d1_u_w"; v1 = bytes "down"; v2 = bytes "任意"; v3 = bytes "任意"; score = 0 } } ∷ [];
+          }
+          ∷ [];
+    }
+
+-- the text and the table mean the same
+text-means : readSheet (bytes "P|soy|M1|0|5|100|0\nO|LO|go\nA|d1_u_w_up_任意_任意_10\nX|LE|out\nA|d1_u_w_down_任意_任意_0\n") ≡ Got meant
+unfolding opened meant
+text-means = refl
+
+table-means : readTable soy ≡ Got meant
+unfolding opened soy meant
+table-means = refl
+
+-- what stands behind the used bytes is not looked at
+tail-free : readTable (patch soy 170 (1 ∷ [])) ≡ Got meant
+unfolding opened soy meant
+tail-free = refl
+
+-- ---- what breaks a condition
+
+abbrev changed : ℕ → List ℕ → Answer Sheet
+changed at new = readTable (patch soy at new)
+
+-- settings past their limits; counts and places that do not fit; a byte too few
+header : (changed 0 (put32 4102444801) ≡ Refused 9) × (changed 4 (put32 2147483648) ≡ Refused 9) × (changed 8 (put32 1000001) ≡ Refused 9)
+    × (changed 12 (put32 2) ≡ Refused 9) × (changed 16 (put32 1) ≡ Refused 9) × (changed 60 (put32 154) ≡ Refused 9) × (readTable (drop 1 soy) ≡ Refused 9)
+unfolding opened soy
+header = (refl, refl, refl, refl, refl, refl, refl)
+
+-- an event's kind, operate, name, clauses
+events : (changed 76 (put16 2) ≡ Refused 9) × (changed 78 (put16 7) ≡ Refused 9) × (changed 82 (put16 3) ≡ Refused 9) × (changed 98 (put16 2) ≡ Refused 9)
+unfolding opened soy
+events = (refl, refl, refl, refl)
+
+-- a clause's kind, key, value codes 0 and 3, score
+clauses : (changed 100 (put16 3) ≡ Refused 9) × (changed 102 (put16 1) ≡ Refused 9) × (changed 104 (put16 0) ≡ Refused 9)
+    × (changed 104 (put16 3) ≡ Refused 9) × (changed 110 (put16 101) ≡ Refused 9)
+unfolding opened soy
+clauses = (refl, refl, refl, refl, refl)
+
+-- values not in order of first use; a value that is not used
+uses : (readTable (patch (patch soy 104 (put16 2)) 116 (put16 1)) ≡ Refused 9) × (changed 116 (put16 1) ≡ Refused 9)
+unfolding opened soy
+uses = (refl, refl)
+
+-- `|`, LF and a byte that is no UTF-8 in a text; three underscores in a key, the wildcard as a key; an underscore in a value
+texts : (changed 148 (124 ∷ []) ≡ Refused 9) × (changed 151 (10 ∷ []) ≡ Refused 9) × (changed 153 (255 ∷ []) ≡ Refused 9)
+    × (changed 158 (bytes "a_b_c_") ≡ Refused 9) × (changed 158 (bytes "任意") ≡ Refused 9) × (changed 164 (bytes "_") ≡ Refused 9)
+unfolding opened soy
+texts = (refl, refl, refl, refl, refl, refl)
+
+-- two values of three bytes, equal; the same with other texts, which are a table; a rank that is not the word's
+abbrev pair : List ℕ → List ℕ
+pair texts = patch (patch soy 132 (put16 164 ++ put16 3 ++ put16 1 ++ put16 1 ++ put16 167 ++ put16 3)) 164 texts
+
+words : (readTable (pair (bytes "abcabc")) ≡ Refused 9) × ((readTable (pair (bytes "abdabc")) >>= λ s. Got (s .name)) ≡ Got (bytes "soy")) × (changed 136 (put16 0) ≡ Refused 9)
+unfolding opened soy
+words = (refl, refl, refl)

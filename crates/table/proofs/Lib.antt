@@ -1,0 +1,4 @@
+-- The laws of the compiled table.
+pub mod Facts
+pub mod Examples
+pub mod Opened

@@ -1,0 +1,4 @@
+-- The definitions of the compiled table.
+pub mod Layout
+pub mod Table
+pub mod Compile
