@@ -1,0 +1,74 @@
+-- A feed on the book of a state answers as the plain machine does, in number, report and bytes. Assumes nothing.
+use Prim.Native.Nat.{ℕ, _≤_}
+use native.Mathlib.Omega.{arith}
+use mathlib.Core.Bool.{true}
+use mathlib.Core.List.{List}
+use mathlib.Core.Path.{_≡_, refl, ap}
+use mathlib.Mathlib.Data.List.Defs.{Forall}
+use lib.ListN.{length}
+use borrow.Author.Tests.{eq-eqb}
+use Rattle.text.specs.Answer.{Answer, Refused, Got, _>>=_}
+use Rattle.sheet.specs.Sheet.{Sheet}
+use Rattle.position.specs.State.{State}
+use Rattle.position.specs.Step.{Going, Fed, stepHead, step}
+use Rattle.position.specs.Feed.{Input, admitted, Accepted, reported, reportOf, feedState}
+use Rattle.position.specs.declared.Report.{Report}
+use Rattle.position.proofs.OneRecord.{one-record}
+use Rattle.position.proofs.Reach.{admitted-got}
+use Rattle.table.specs.Layout.{tableLength}
+use Rattle.table.specs.Table.{readTable}
+use Rattle.book.specs.Layout.{barLimit, encode}
+use Rattle.book.specs.Check.{headerOk}
+use Rattle.book.specs.Calls.{fed, feedDo}
+use Rattle.book.proofs.Fits.{HoldIn, HeadIn}
+use Rattle.book.proofs.Lengths.{capacity-is}
+use Rattle.book.proofs.Parts.{holds-count, head-read}
+use Rattle.book.proofs.Link.{fed-is}
+
+-- ---- a feed
+
+abbrev accepted : {X : Type 0} → X → Report → Answer (Accepted X)
+accepted x r = Got (record { after = x; report = r })
+
+-- the table means s, and the book of st for c bars passes the header check and holds what st has
+pub record Ready (table : List ℕ) (s : Sheet) (c : ℕ) (st : State) : Type 0 where
+  pub sized : length table ≡ tableLength
+  pub meant : readTable table ≡ Got s
+  pub least : 1 ≤ c
+  pub most : c ≤ barLimit
+  pub holds : length (st .holds) ≤ c
+  pub records : length (st .records) ≤ length (st .holds)
+  pub checked : headerOk c (encode c st) ≡ true
+  pub head : HeadIn (st .head)
+  pub fits : Forall HoldIn (st .holds)
+
+pub feed-is : (table : List ℕ) (s : Sheet) (c : ℕ) (st : State) (i : Input) → Ready table s c st
+    → feedDo table (encode c st) i ≡ (feedState s c i st >>= λ a. Got (record { after = encode c (a .after); report = a .report }))
+unfolding feedDo feedState step reportOf
+feed-is table s c st i r =
+    let most = r .most in
+    let within = r .holds in
+    let less = r .records in
+    rw (
+      eq-eqb (length table) tableLength (r .sized),
+      capacity-is c st within (omega arith) (r .least) most,
+      r .meant,
+      r .checked,
+      holds-count c st (omega arith),
+      head-read c st (r .head),
+    )
+    (go (admitted c (length (st .holds)) (st .head .end) i) refl)
+  where
+    after : Fed → Going
+    after f = stepHead s (f .bar) (f .signals) (st .head)
+
+    go : (a : Answer Fed) → admitted c (length (st .holds)) (st .head .end) i ≡ a
+        → (a >>= λ f. accepted (fed c (f .bar) (after f) (encode c st)) (reported s (f .signals) (after f)))
+        ≡ (a >>= (λ f. accepted (step s (f .bar) (f .signals) st) (reportOf s f (st .head))) >>= λ x. accepted (encode c (x .after)) (x .report))
+    go (Refused n) e = refl
+    go (Got f) e =
+        let most = r .most in
+        let less = r .records in
+        let space = admitted-got c (length (st .holds)) (st .head .end) i f e .2 in
+        let few = one-record s (f .bar) (f .signals) (st .head) in
+        ap (λ (l : List ℕ). accepted l (reported s (f .signals) (after f))) (fed-is c (f .bar) (after f) st (omega arith) space (omega arith) (r .fits))

@@ -1,0 +1,17 @@
+-- The laws of book.
+pub mod Fits
+pub mod Back
+pub mod Items
+pub mod Lengths
+pub mod Parts
+pub mod Slots
+pub mod Settled
+pub mod Link
+pub mod Feeds
+pub mod Ranges
+pub mod Entries
+pub mod Header
+pub mod Passes
+pub mod Ready
+pub mod Opened
+mod Examples

@@ -1,0 +1,4 @@
+-- The definitions of the book.
+pub mod Layout
+pub mod Check
+pub mod Calls
