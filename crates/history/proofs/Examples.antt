@@ -1,0 +1,100 @@
+-- One list of calls, computed: what each answers, which bars survive, and that the book at the end is that of the plain machine after them.
+-- Assumes nothing.
+use Prim.Native.Nat.{ℕ}
+use mathlib.Core.Bool.{true}
+use mathlib.Core.List.{List, [], _∷_, _++_}
+use mathlib.Core.Path.{_≡_, refl}
+use lib.IntN.{pos, negsuc}
+use lib.Ieee.{binary64, ofBits}
+use lib.ListN.{replicate}
+use Rattle.le.specs.Le.{patch}
+use Rattle.text.specs.Literal.{bytes}
+use Rattle.text.specs.Text.{same}
+use Rattle.position.specs.Step.{plain}
+use Rattle.table.proofs.Examples.{soy, meant}
+use Rattle.book.specs.Layout.{encode}
+use Rattle.history.specs.Calls.{Call, Fresh, Feed, Save, Restore, PairRow, HoldRow, answered, after, Past, Unknown, Known, bookAfter, survivors}
+use Rattle.history.proofs.Opened.{opened}
+
+-- ---- the calls, on a book of 3 bars whose bytes at first are no book
+
+abbrev feed : List ℕ → ℕ → ℕ → List ℕ → Call
+feed table id instant signals =
+    Feed table (record { id = pos id; instant = pos instant; offset = pos 0; price = ofBits binary64 0x4059_0000_0000_0000; signals = signals })
+
+abbrev up : List ℕ
+up = bytes "d1_u_w|up_a_b_10\n"
+
+abbrev down : List ℕ
+down = bytes "d1_u_w|down_a_b_5\n"
+
+unfoldable start : List ℕ
+start = replicate 288 255
+
+unfoldable buffer : List ℕ
+buffer = replicate 288 3
+
+-- two refusals (no book yet, a table that is none), a fresh, a bar, and a save: its image
+unfoldable beginning : List Call
+beginning = feed soy 1 1 up ∷ feed (replicate 32768 0) 1 1 up ∷ Fresh ∷ feed soy 1 1 up ∷ Save soy buffer ∷ []
+
+unfoldable image : List ℕ
+image = bookAfter start beginning
+
+-- a bar that a restore takes back, refusals of each kind between them (a late bar, a malformed signal, a damaged image, a short one, rows past
+-- the last and before the first), two bars more, a full book, a save and rows
+unfoldable calls : List Call
+calls =
+    beginning
+    ++ feed soy 2 86400000001 down
+    ∷ feed soy 3 5 up
+    ∷ Restore soy image
+    ∷ feed soy 4 7 down
+    ∷ feed soy 5 9 (bytes "x")
+    ∷ Restore soy (patch image 0 (9 ∷ []))
+    ∷ Restore soy (7 ∷ [])
+    ∷ PairRow soy (pos 0) (replicate 2048 0)
+    ∷ feed soy 6 172800000000 down
+    ∷ feed soy 7 172800000001 up
+    ∷ Save soy buffer
+    ∷ PairRow soy (pos 0) (replicate 2048 0)
+    ∷ HoldRow soy (pos 2)
+    ∷ HoldRow soy (negsuc 0)
+    ∷ []
+
+-- ---- what they answer
+
+unfoldable numbers : List ℕ → List Call → List ℕ
+numbers b [] = []
+numbers b (c ∷ cs) = answered b c .number ∷ numbers (after b c) cs
+
+said : numbers start calls ≡ 10 ∷ 9 ∷ 0 ∷ 0 ∷ 0 ∷ 0 ∷ 13 ∷ 0 ∷ 0 ∷ 2 ∷ 10 ∷ 8 ∷ 15 ∷ 0 ∷ 14 ∷ 0 ∷ 0 ∷ 0 ∷ 15 ∷ []
+unfolding opened soy start buffer beginning image calls numbers
+said = refl
+
+-- ---- which bars survive: numbers 1, 4 and 6
+
+abbrev ids : Past → List ℕ
+ids Unknown = []
+ids (Known []) = []
+ids (Known (f ∷ fs)) = f .bar .id ∷ ids (Known fs)
+
+survived : ids (survivors soy start calls) ≡ 1 ∷ 4 ∷ 6 ∷ []
+unfolding opened soy start buffer beginning image calls
+survived = refl
+
+-- ---- the book is theirs
+
+abbrev bookOf : Past → List ℕ
+bookOf Unknown = []
+bookOf (Known fs) = encode 3 (plain meant fs)
+
+kept : same (bookAfter start calls) (bookOf (survivors soy start calls)) ≡ true
+unfolding opened soy meant start buffer beginning image calls
+kept = refl
+
+-- ---- an image that no save wrote leaves nothing claimed, until a fresh
+
+unclaimed : (ids (survivors soy start (Fresh ∷ Restore soy image ∷ [])) ≡ []) × (survivors soy start (Fresh ∷ Restore soy image ∷ Fresh ∷ []) ≡ Known [])
+unfolding opened soy start buffer beginning image
+unclaimed = (refl, refl)

@@ -1,0 +1,8 @@
+-- The theorem of every list of calls on one book, and one list computed.
+pub mod Answered
+pub mod Invariant
+pub mod Keeps
+pub mod Kept
+pub mod Theorem
+pub mod Opened
+mod Examples

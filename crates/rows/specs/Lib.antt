@@ -1,0 +1,2 @@
+-- The definitions of row requests.
+pub mod Calls

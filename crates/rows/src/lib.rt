@@ -1,0 +1,1 @@
+// Row requests: pairs, holds and events' names. Definitions (specs/); no function yet.
