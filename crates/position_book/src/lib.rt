@@ -37,6 +37,47 @@ pub struct NameAnswer {
     pub length: usize,
 }
 
+// What a feed says: the position after the bar (-1, 0 or 1), whether it changed, and what decided the bar: 0 nothing, 1 an event, 2 the stop,
+// 3 the timeout; the event's index where it is 1.
+#[repr(C)]
+pub struct FeedAnswer {
+    pub number: u32,
+    pub pos: i32,
+    pub changed: u32,
+    pub decision: u32,
+    pub event: u32,
+}
+
+// A pair row: 1 for L or -1 for S, both local times, both prices, the id difference, days, the yield where it is present, and the lengths
+// of symbol, mark and sequence.
+#[repr(C)]
+pub struct PairAnswer {
+    pub number: u32,
+    pub side: i32,
+    pub opened: i64,
+    pub closed: i64,
+    pub from: f64,
+    pub to: f64,
+    pub ids: i64,
+    pub days: f64,
+    pub present: u32,
+    pub bp: f64,
+    pub symbol: usize,
+    pub mark: usize,
+    pub sequence: usize,
+}
+
+// A hold row: its local time, -1, 0 or 1, its price, and the yield where it is present.
+#[repr(C)]
+pub struct HoldAnswer {
+    pub number: u32,
+    pub local: i64,
+    pub pos: i32,
+    pub price: f64,
+    pub present: u32,
+    pub bp: f64,
+}
+
 // A refusal with a number.
 fn refused(number: u32) -> SignalAnswer
     ensures { λ r. ⌜ r ≡ signalAnswer (Refused number) ⌝ }
