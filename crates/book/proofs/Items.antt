@@ -2,9 +2,9 @@
 use Prim.Native.Nat.{ℕ, _+_, _*_}
 use native.Mathlib.Omega.{arith}
 use mathlib.Core.List.{List, [], _∷_, _++_, map, append-assoc, append-nil}
-use mathlib.Core.Path.{_≡_, refl, sym, ap, _∙_}
+use mathlib.Core.Path.{_≡_, refl, sym, ap, _∙_, subst}
 use mathlib.Mathlib.Data.List.Defs.{Forall}
-use mathlib.Mathlib.Data.List.Basic.{forall-cons}
+use mathlib.Mathlib.Data.List.Basic.{forall-cons, forall-append}
 use lib.ListN.{length, length-append}
 use Rattle.le.specs.Le.{part, patch}
 use Rattle.le.proofs.Places.{part-mid, patch-mid}
@@ -68,3 +68,7 @@ items-read item itemOf back [] h = refl
 items-read {P = P} item itemOf back (x ∷ xs) h =
     let k = forall-cons P x xs .0 h in
     λ i. back x (k .0) i ∷ items-read item itemOf back xs (k .1) i
+
+-- what each item has, the last one has
+pub forall-last : {A : Type 0} (P : A → Type 0) (l xs : List A) (x : A) → l ≡ xs ++ x ∷ [] → Forall P l → P x
+forall-last P l xs x e h = forall-cons P x [] .0 (forall-append P xs (x ∷ []) .0 (subst (Forall P) e h) .1) .0

@@ -5,8 +5,6 @@ use mathlib.Core.Bool.{true, _||_}
 use mathlib.Core.List.{List, [], _∷_, _++_}
 use mathlib.Core.Logic.{_⊎_, inl, inr}
 use mathlib.Core.Path.{_≡_, refl, sym, ap, _∙_, subst}
-use mathlib.Mathlib.Data.List.Defs.{Forall}
-use mathlib.Mathlib.Data.List.Basic.{forall-append, forall-cons}
 use lib.Dec.{ltb, eqb, eqb·suc-zero}
 use lib.ListN.{length, length-append}
 use Rattle.le.specs.Le.{part}
@@ -23,7 +21,7 @@ use Rattle.book.specs.Layout.{barLimit, headBytes, holdBytes, holdsBytes
 use Rattle.book.specs.Check.{holdOk, recordOk, countsOk, lastOk, usedOk, headerOk, rising, fullOk}
 use Rattle.book.proofs.Fits.{HeadIn}
 use Rattle.book.proofs.Back.{holds-back}
-use Rattle.book.proofs.Items.{items-last, item-at}
+use Rattle.book.proofs.Items.{items-last, item-at, forall-last}
 use Rattle.book.proofs.Lengths.{head-length, holds-written}
 use Rattle.book.proofs.Parts.{behind, by-holds, header, holdsLeft, recordsLeft, encode-is, rest, from-head, holds-count}
 use Rattle.book.proofs.Slots.{hold-slots, record-slots}
@@ -86,10 +84,7 @@ module _ (s : Sheet) (c : ℕ) (st : State) (sound : Sound s st) (room : Room s 
         rw (count, less, whole) (item-at holds-written hd (ends .front) (holdPlace n) place (ends .last) q)
 
     last-ok : HoldOk (ends .last)
-    last-ok =
-        let f = ends .front in
-        let l = ends .last in
-        forall-cons HoldOk l [] .0 (forall-append HoldOk f (l ∷ []) .0 (subst (Forall HoldOk) (ends .whole) (sound .holds)) .1) .0
+    last-ok = forall-last HoldOk (st .holds) (ends .front) (ends .last) (ends .whole) (sound .holds)
 
     last-fine : lastOk (encode c st) (part (encode c st) (holdPlace (u32 (encode c st) 0 - 1)) 32) ≡ true
     last-fine =

@@ -4,7 +4,6 @@ use native.Mathlib.Omega.{arith}
 use mathlib.Core.List.{List, [], _∷_, _++_}
 use mathlib.Core.Path.{_≡_, refl, ap, _∙_, subst}
 use mathlib.Mathlib.Data.List.Defs.{Forall}
-use mathlib.Mathlib.Data.List.Basic.{forall-append, forall-cons}
 use lib.Dec.{eqb·suc-zero}
 use lib.ListN.{length, length-append}
 use Rattle.le.specs.Field.{u32}
@@ -15,7 +14,7 @@ use Rattle.book.specs.Layout.{holdBytes, holdsBytes, holdPlace}
 use Rattle.book.specs.Calls.{settled}
 use Rattle.book.proofs.Fits.{HoldIn}
 use Rattle.book.proofs.Back.{hold-back}
-use Rattle.book.proofs.Items.{items-one, items-last, item-at, items-put}
+use Rattle.book.proofs.Items.{items-one, items-last, item-at, items-put, forall-last}
 use Rattle.book.proofs.Lengths.{hold-length, holds-written}
 
 -- a list by its last hold
@@ -65,8 +64,7 @@ module _ (bar : Bar) (hd : List ℕ) (q : List ℕ) (long : length hd ≡ 96) wh
       go os r fits n =
           let f = r .front in
           let o = r .last in
-          let ends : Forall HoldIn (o ∷ []) = forall-append HoldIn f (o ∷ []) .0 (subst (Forall HoldIn) (r .whole) fits) .1 in
           let count : u32 (hd ++ holdsBytes (f ++ o ∷ []) ++ q) 0 ≡ suc (length f) =
           subst (λ (l : List Hold). u32 (hd ++ holdsBytes l ++ q) 0 ≡ length l) (r .whole) n ∙ omega (arith, length-append f (o ∷ []))
           in
-          rw (r .after) (ap (λ (l : List Hold). settled bar (hd ++ holdsBytes l ++ q)) (r .whole) ∙ in-place f o (forall-cons HoldIn o [] .0 ends .0) count)
+          rw (r .after) (ap (λ (l : List Hold). settled bar (hd ++ holdsBytes l ++ q)) (r .whole) ∙ in-place f o (forall-last HoldIn os f o (r .whole) fits) count)

@@ -1,18 +1,26 @@
 -- No call says 0 unless it is done; and what each then leaves. Assumes nothing.
 use Prim.Native.Nat.{ℕ}
+use mathlib.Core.Bool.{_||_}
 use mathlib.Core.List.{List}
 use mathlib.Core.Option.{Option, none, some}
 use mathlib.Core.Path.{_≡_, refl}
-use Rattle.text.specs.Answer.{Got, _>>=_, given}
-use Rattle.text.proofs.Refusals.{Gives, refuses, gives, Any, loud, lines-give}
+use lib.Dec.{ltb, eqb}
+use lib.ListN.{length}
+use lib.Signed.{ltZ}
+use Rattle.le.specs.Field.{u32}
+use Rattle.text.specs.Answer.{Answer, Got, _>>=_, must, given}
+use Rattle.text.proofs.Refusals.{Gives, refuses, gives, Any, must-gives, given-gives, then-with, then-gives, loud, lines-give}
 use Rattle.utf8.specs.Alone.{text}
 use Rattle.bar.specs.Bar.{barOf}
 use Rattle.bar.specs.declared.Time.{Time}
 use Rattle.event.specs.Signals.{Line, signalLine, readSignals}
+use Rattle.table.specs.Layout.{tableLength}
 use Rattle.table.specs.Table.{readTable}
+use Rattle.position.specs.Step.{Fed}
 use Rattle.position.specs.Feed.{Input, fedOf, admitted}
-use Rattle.book.specs.Layout.{capacity, freshBook}
-use Rattle.book.specs.Calls.{freshDo, feedDo, saveDo, restoreDo}
+use Rattle.book.specs.Layout.{capacity, headOf, freshBook}
+use Rattle.book.specs.Check.{headerOk}
+use Rattle.book.specs.Calls.{sized, freshDo, feedDo, saveDo, restoreDo}
 
 -- ---- what the calls read
 
@@ -53,6 +61,31 @@ fresh-gives b = go (capacity b) refl
 pub feed-gives : (t b : List ℕ) (i : Input) → Gives Any (feedDo t b i)
 unfolding feedDo
 feed-gives t b i = search (loud, table-gives, admitted-gives)
+
+-- an admitted bar is that of the arguments
+admitted-fed : (c holds : ℕ) (end : Time) (i : Input) → Gives (λ f. fedOf i ≡ Got f) (admitted c holds end i)
+unfolding admitted
+admitted-fed c holds end i = go refl (fed-gives i)
+  where
+    go : {a : Answer Fed} → fedOf i ≡ a → Gives Any a
+        → Gives (λ f. fedOf i ≡ Got f)
+        (a >>= λ f. must 13 (eqb holds 0 || ltZ (end .instant .0) (f .bar .time .instant .0)) >>= λ _. must 14 (ltb holds c) >>= λ _. Got f)
+    go e refuses = refuses
+    go e (gives {x} u) =
+        then-gives (must-gives 13 (eqb holds 0 || ltZ (end .instant .0) (x .bar .time .instant .0)) tt)
+        (λ _. then-gives (must-gives 14 (ltb holds c) tt) (λ _. gives e))
+
+sized-gives : (t b : List ℕ) → Gives Any (sized t b)
+sized-gives t b = then-gives (must-gives 8 (eqb (length t) tableLength) tt) (λ _. given-gives 8 (capacity b) tt)
+
+-- so the arguments of an accepted feed say a bar and its signals
+pub feed-fed : (t b : List ℕ) (i : Input) → Gives (λ x. (f : Fed) × (fedOf i ≡ Got f)) (feedDo t b i)
+unfolding feedDo
+feed-fed t b i =
+    then-gives {a = sized t b} (sized-gives t b)
+    (λ c. then-gives (table-gives t)
+    (λ s. then-gives (must-gives 10 (headerOk c b) tt)
+    (λ _. then-with (admitted-fed c (u32 b 0) (headOf b .end) i) (λ f e. gives (f, e)))))
 
 pub save-gives : (t b image : List ℕ) → Gives (λ x. x ≡ b) (saveDo t b image)
 unfolding saveDo

@@ -4,5 +4,6 @@ pub mod Invariant
 pub mod Keeps
 pub mod Kept
 pub mod Theorem
+pub mod Known
 pub mod Opened
 mod Examples

@@ -9,7 +9,9 @@ use lib.IntN.{ℤ}
 use lib.Ieee.{binary64, fits}
 use lib.ListN.{length}
 use Rattle.le.specs.Field.{u32}
-use Rattle.text.specs.Answer.{Got, _>>=_, given}
+use Rattle.text.specs.Answer.{Got, _>>=_, given, number}
+use Rattle.text.specs.Text.{same}
+use Rattle.text.specs.Conditions.{anyOf}
 use Rattle.sheet.specs.Sheet.{Sheet}
 use Rattle.table.specs.Table.{readTable}
 use Rattle.position.specs.Step.{Fed, plain}
@@ -18,7 +20,7 @@ use Rattle.position.specs.Rows.{pairsOf, holdRows}
 use Rattle.book.specs.Layout.{capacity, encode}
 use Rattle.book.specs.Calls.{feedDo, saveDo, restoreDo}
 use Rattle.rows.specs.Calls.{rowBuffer, rowAt, pairDo, holdDo}
-use Rattle.history.specs.Calls.{Call, Fresh, Feed, Save, Restore, PairRow, HoldRow, Past, Unknown, Known, bookAfter, survivors}
+use Rattle.history.specs.Calls.{Call, Fresh, Feed, Save, Restore, PairRow, HoldRow, answered, after, Past, Unknown, Known, Ledger, survive, bookAfter, ledgerFrom, survivors}
 
 -- what is claimed of a book b, asked with the table, where the bars fs survived
 pub record Kept (table : List ℕ) (s : Sheet) (fs : List Fed) (b : List ℕ) : Type 0 where
@@ -65,3 +67,26 @@ Claim =
     (table : List ℕ) (s : Sheet) → readTable table ≡ Got s
     → (b : List ℕ) (cs : List Call) → T (doubles cs)
     → Claimed table s (survivors table b cs) (bookAfter b cs)
+
+-- ---- when the survivors are known
+
+-- an accepted feed had the table, and the image of an accepted restore is one that an earlier accepted save wrote
+abbrev pub Ours : List ℕ → List ℕ → Ledger → Call → Type 0
+Ours table b l Fresh = Unit {0}
+Ours table b l (Feed t i) = number (feedDo t b i) ≡ 0 → t ≡ table
+Ours table b l (Save t image) = Unit {0}
+Ours table b l (Restore t image) = number (restoreDo t b image) ≡ 0 → anyOf (λ v. same image (v .image)) (l .saves) ≡ true
+Ours table b l (PairRow t i buffer) = Unit {0}
+Ours table b l (HoldRow t i) = Unit {0}
+
+abbrev pub AllOurs : List ℕ → List ℕ → Ledger → List Call → Type 0
+AllOurs table b l [] = Unit {0}
+AllOurs table b l (c ∷ cs) = Ours table b l c × AllOurs table (after b c) (survive table l c (answered b c)) cs
+
+abbrev pub IsKnown : Past → Type 0
+IsKnown Unknown = ⊥
+IsKnown (Known fs) = Unit {0}
+
+-- where they are known at first they stay known, so that the claim says all it can
+unfoldable pub StaysKnown : Type 0
+StaysKnown = (table b : List ℕ) (l : Ledger) (cs : List Call) → IsKnown (l .past) → AllOurs table b l cs → IsKnown (ledgerFrom table b l cs .past)

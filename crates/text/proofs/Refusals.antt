@@ -29,9 +29,13 @@ given-gives (suc n) (some x) h = gives tt
 pub got-gives : {X : Type 0} (x : X) → Gives Any (Got x)
 got-gives x = gives tt
 
+pub then-with : {X Y : Type 0} {Q : X → Type 0} {P : Y → Type 0} {a : Answer X} {k : X → Answer Y} → Gives Q a → ((x : X) → Q x → Gives P (k x))
+    → Gives P (a >>= k)
+then-with refuses f = refuses
+then-with (gives {x} q) f = f x q
+
 pub then-gives : {X Y : Type 0} {P : Y → Type 0} {a : Answer X} {k : X → Answer Y} → Gives Any a → ((x : X) → Gives P (k x)) → Gives P (a >>= k)
-then-gives refuses f = refuses
-then-gives (gives {x} p) f = f x
+then-gives g f = then-with g (λ x u. f x)
 
 pub ruleset loud = (must-gives, given-gives, got-gives, then-gives, tt)
 
