@@ -71,7 +71,7 @@ abbrev pub note : List ℕ → Past → List Saved → List Saved
 note image Unknown vs = vs
 note image (Known fs) vs = record { image = image; bars = fs } ∷ vs
 
--- "those at the save that wrote its image": the last such save
+-- "those at the save that wrote its image": the last such save that was noted
 unfoldable pub savedAs : List ℕ → List Saved → Past
 savedAs image [] = Unknown
 savedAs image (v ∷ vs) = cond (same image (v .image)) (Known (v .bars)) (savedAs image vs)
