@@ -126,24 +126,28 @@ def read_operate(b):
     raise Refused(4)
 
 
-def signal_alone(b):
+def check_text(b):
+    """a text: 7, 1"""
     if len(b) > TEXT:
         raise Refused(7)
     if not utf8_ok(b):
         raise Refused(1)
+
+
+def alone(b, read):
+    """a signal or an operate alone: 7, 1, 2, then its own refusals"""
+    check_text(b)
     if b"|" in b or b"\n" in b:
         raise Refused(2)
-    return read_signal(b)
+    return read(b)
+
+
+def signal_alone(b):
+    return alone(b, read_signal)
 
 
 def operate_alone(b):
-    if len(b) > TEXT:
-        raise Refused(7)
-    if not utf8_ok(b):
-        raise Refused(1)
-    if b"|" in b or b"\n" in b:
-        raise Refused(2)
-    return read_operate(b)
+    return alone(b, read_operate)
 
 
 class Event:
@@ -175,10 +179,7 @@ def name_field(b):
 
 
 def read_sheet(text):
-    if len(text) > TEXT:
-        raise Refused(7)
-    if not utf8_ok(text):
-        raise Refused(1)
+    check_text(text)
     ls = lines_of(text)
     if not ls:
         raise Refused(2)
@@ -225,10 +226,7 @@ def read_sheet(text):
 # ---------- matching ----------
 def read_signals(text):
     """the bar's signals as a dict, or refused: 7, 1, then per line 2, 12, count"""
-    if len(text) > TEXT:
-        raise Refused(7)
-    if not utf8_ok(text):
-        raise Refused(1)
+    check_text(text)
     d = {}
     for line, ended in lines_of(text):
         f = line.split(b"|")
@@ -349,50 +347,35 @@ def step(sh, st, bar, d):
     def free(last):
         return sh.t0 == 1 or last is None or last.day() != now.day()
 
-    if op == LO:
-        allowed = st.lo is None or seconds_between(st.lo, now) > sh.interval
-        if allowed and st.pos != LONG:
-            st.pos = LONG
-            st.lo = now
-            rec(LO, 1)
-        elif st.pos == SHORT and free(st.so):
+    # steps 3 and 4: each side's open, pos, last open; the other side's close, pos, last open
+    for open_, pos, own, close, other_pos, other in ((LO, LONG, "lo", SE, SHORT, "so"), (SO, SHORT, "so", LE, LONG, "lo")):
+        if op != open_:
+            continue
+        last = getattr(st, own)
+        allowed = last is None or seconds_between(last, now) > sh.interval
+        if allowed and st.pos != pos:
+            st.pos = pos
+            setattr(st, own, now)
+            rec(open_, 1)
+        elif st.pos == other_pos and free(getattr(st, other)):
             st.pos = FLAT
-            rec(SE, 1)
-    if op == SO:
-        allowed = st.so is None or seconds_between(st.so, now) > sh.interval
-        if allowed and st.pos != SHORT:
-            st.pos = SHORT
-            st.so = now
-            rec(SO, 1)
-        elif st.pos == LONG and free(st.lo):
-            st.pos = FLAT
-            rec(LE, 1)
+            rec(close, 1)
     price = of_bits(bar.price)
     limit = div(-float(sh.stop), 10000.0)
-    if st.pos == LONG and st.ref is not None and free(st.lo):
-        r = of_bits(st.ref.bar.price)
+    # steps 5 and 6
+    for close, pos, own, gain in ((LE, LONG, "lo", lambda q: q - 1.0), (SE, SHORT, "so", lambda q: 1.0 - q)):
+        if st.pos != pos or st.ref is None or not free(getattr(st, own)):
+            continue
         why = None
-        if op == LE:
+        if op == close:
             why = 1
-        elif div(price, r) - 1.0 < limit:
+        elif gain(div(price, of_bits(st.ref.bar.price))) < limit:
             why = 2
         elif bar.id - st.ref.bar.id > sh.timeout:
             why = 3
         if why:
             st.pos = FLAT
-            rec(LE, why)
-    if st.pos == SHORT and st.ref is not None and free(st.so):
-        r = of_bits(st.ref.bar.price)
-        why = None
-        if op == SE:
-            why = 1
-        elif 1.0 - div(price, r) < limit:
-            why = 2
-        elif bar.id - st.ref.bar.id > sh.timeout:
-            why = 3
-        if why:
-            st.pos = FLAT
-            rec(SE, why)
+            rec(close, why)
     if st.holds:
         p = of_bits(st.holds[-1].price)
         if p > 0.0:
@@ -610,22 +593,23 @@ def feed(sh, b, bar, sigs):
     return 0, bytes(out), i, rec
 
 
+def copied(sh, source, target):
+    """(number, target after) of copying a checked book of the target's length"""
+    if not book_len_ok(source) or not book_len_ok(target) or len(source) != len(target):
+        return 8, target
+    if not full_ok(sh, source):
+        return 10, target
+    return 0, source
+
+
 def save(sh, book, image):
     """(number, image after)"""
-    if not book_len_ok(book) or not book_len_ok(image) or len(book) != len(image):
-        return 8, image
-    if not full_ok(sh, book):
-        return 10, image
-    return 0, book
+    return copied(sh, book, image)
 
 
 def restore(sh, image, book):
     """(number, book after)"""
-    if not book_len_ok(book) or not book_len_ok(image) or len(book) != len(image):
-        return 8, book
-    if not full_ok(sh, image):
-        return 10, book
-    return 0, image
+    return copied(sh, image, book)
 
 
 # ---------- rows ----------
@@ -670,29 +654,30 @@ def hold_rows(st):
     return [dict(local=h.time.local(), pos=h.pos - 1, price=h.price, yld=h.yld) for h in st.holds]
 
 
+def asked(sh, book, i, rows):
+    """(number, row or None): 10, 15"""
+    if not book_len_ok(book):
+        return 8, None
+    if not full_ok(sh, book):
+        return 10, None
+    found = rows(decode(book))
+    return (0, found[i]) if i < len(found) else (15, None)
+
+
 def pair_row(sh, book, i, buf):
     """(number, row or None, buffer after)"""
-    if not book_len_ok(book) or len(buf) < 2048:
+    if len(buf) < 2048:
         return 8, None, buf
-    if not full_ok(sh, book):
-        return 10, None, buf
-    rows = pair_rows(sh, decode(book))
-    if i >= len(rows):
-        return 15, None, buf
-    r = rows[i]
+    n, r = asked(sh, book, i, lambda st: pair_rows(sh, st))
+    if n:
+        return n, None, buf
     t = r["symbol"] + r["mark"] + r["seq"]
     return 0, r, t + buf[len(t):]
 
 
 def hold_row(sh, book, i):
-    if not book_len_ok(book):
-        return 8, None
-    if not full_ok(sh, book):
-        return 10, None
-    rows = hold_rows(decode(book))
-    if i >= len(rows):
-        return 15, None
-    return 0, rows[i]
+    """(number, row or None)"""
+    return asked(sh, book, i, hold_rows)
 
 
 # ---------- run program ----------

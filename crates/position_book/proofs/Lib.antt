@@ -1,2 +1,3 @@
--- Laws of the exported calls.
+-- Laws of the exported calls, and worked examples.
 pub mod Laws
+mod Examples

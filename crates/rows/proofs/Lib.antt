@@ -1,2 +1,3 @@
--- The laws of rows.
+-- Case *1's rows, and the opener of definitions.
 pub mod Opened
+pub mod Examples
