@@ -1,3 +1,4 @@
 -- The definitions of a bar's signals and of matching.
 pub mod Signals
 pub mod Match
+pub mod Places

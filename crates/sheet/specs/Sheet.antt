@@ -1,7 +1,8 @@
 -- What a position sheet says. Assumes nothing.
 use Prim.Native.Nat.{ℕ, _+_}
-use mathlib.Core.Bool.{Bool}
+use mathlib.Core.Bool.{Bool, cond}
 use mathlib.Core.List.{List, [], _∷_}
+use lib.Dec.{eqb}
 use lib.ListN.{length}
 use Rattle.signal.specs.Signal.{Signal}
 
@@ -10,6 +11,10 @@ pub data Kind : Type 0 where
   All : Kind
   Any : Kind
   Not : Kind
+
+-- kinds by numbers: 0 all, 1 any, 2 not
+abbrev pub kindOf : ℕ → Kind
+kindOf k = cond (eqb k 0) All (cond (eqb k 1) Any Not)
 
 pub record Clause : Type 0 where
   pub kind : Kind

@@ -25,15 +25,15 @@ soy =
     -- where events, clauses, keys, values, texts, event names, key texts and value texts start; the end
     ++ (76 ∷ 0 ∷ 0 ∷ 0 ∷ 100 ∷ 0 ∷ 0 ∷ 0 ∷ 124 ∷ 0 ∷ 0 ∷ 0 ∷ 132 ∷ 0 ∷ 0 ∷ 0 ∷ 148 ∷ 0 ∷ 0 ∷ 0 ∷ 153 ∷ 0 ∷ 0 ∷ 0 ∷ 158 ∷ 0 ∷ 0 ∷ 0 ∷ 164 ∷ 0 ∷ 0 ∷ 0 ∷ 170 ∷ 0 ∷ 0 ∷ 0 ∷ [])
     -- two events: kind, operate, name at, length, first clause, clauses
-    ++ (0 ∷ 0 ∷ 3 ∷ 0 ∷ 153 ∷ 0 ∷ 2 ∷ 0 ∷ 0 ∷ 0 ∷ 1 ∷ 0 ∷ [])
-    ++ (1 ∷ 0 ∷ 4 ∷ 0 ∷ 155 ∷ 0 ∷ 3 ∷ 0 ∷ 1 ∷ 0 ∷ 1 ∷ 0 ∷ [])
+    ++ (0 ∷ 0 ∷ 3 ∷ 0 ∷ 0 ∷ 0 ∷ 2 ∷ 0 ∷ 0 ∷ 0 ∷ 1 ∷ 0 ∷ [])
+    ++ (1 ∷ 0 ∷ 4 ∷ 0 ∷ 2 ∷ 0 ∷ 3 ∷ 0 ∷ 1 ∷ 0 ∷ 1 ∷ 0 ∷ [])
     -- two clauses: kind, key, three values, score
     ++ (0 ∷ 0 ∷ 0 ∷ 0 ∷ 1 ∷ 0 ∷ 255 ∷ 255 ∷ 255 ∷ 255 ∷ 10 ∷ 0 ∷ [])
     ++ (0 ∷ 0 ∷ 0 ∷ 0 ∷ 2 ∷ 0 ∷ 255 ∷ 255 ∷ 255 ∷ 255 ∷ 0 ∷ 0 ∷ [])
     -- one key, two values: text at, length, rank, order
-    ++ (158 ∷ 0 ∷ 6 ∷ 0 ∷ 0 ∷ 0 ∷ 0 ∷ 0 ∷ [])
-    ++ (164 ∷ 0 ∷ 2 ∷ 0 ∷ 1 ∷ 0 ∷ 1 ∷ 0 ∷ [])
-    ++ (166 ∷ 0 ∷ 4 ∷ 0 ∷ 0 ∷ 0 ∷ 0 ∷ 0 ∷ [])
+    ++ (0 ∷ 0 ∷ 6 ∷ 0 ∷ 0 ∷ 0 ∷ 0 ∷ 0 ∷ [])
+    ++ (0 ∷ 0 ∷ 2 ∷ 0 ∷ 1 ∷ 0 ∷ 1 ∷ 0 ∷ [])
+    ++ (2 ∷ 0 ∷ 4 ∷ 0 ∷ 0 ∷ 0 ∷ 0 ∷ 0 ∷ [])
     ++ bytes "soyM1gooutd1_u_wupdown"
     ++ replicate 32598 0
 
@@ -111,7 +111,7 @@ texts = (refl, refl, refl, refl, refl, refl)
 
 -- two values of three bytes, equal; the same with other texts, which are a table; a rank that is not the word's
 abbrev pair : List ℕ → List ℕ
-pair texts = patch (patch soy 132 (put16 164 ++ put16 3 ++ put16 1 ++ put16 1 ++ put16 167 ++ put16 3)) 164 texts
+pair texts = patch (patch soy 132 (put16 0 ++ put16 3 ++ put16 1 ++ put16 1 ++ put16 3 ++ put16 3)) 164 texts
 
 words : (readTable (pair (bytes "abcabc")) ≡ Refused 9) × ((readTable (pair (bytes "abdabc")) >>= λ s. Got (s .name)) ≡ Got (bytes "soy")) × (changed 136 (put16 0) ≡ Refused 9)
 unfolding opened soy

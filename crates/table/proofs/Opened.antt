@@ -1,10 +1,12 @@
 -- Opens every definition of `table` and of what it leans on, for examples that compute. Assumes nothing.
+use Rattle.list.proofs.Opened.{opened as opened-list}
 use Rattle.le.proofs.Opened.{opened as opened-le}
 use Rattle.sheet.proofs.Opened.{opened as opened-sheet}
+use Rattle.words.proofs.Opened.{opened as opened-words}
 use Rattle.table.specs.Compile.{compileDo}
-use Rattle.table.specs.Layout.{settingsIn, countsIn, placesIn, eventIn, clauseIn, wordIn, rows, eventsOf, clausesOf, keysOf, valuesOf, nameOf, symbolOf, eventText, wordText}
-use Rattle.table.specs.Table.{settingsOk, countsOk, placesOk, headOk, follow, clean, wordOk, eventOk, eventsOk, clauseOk, valueUses, inOrder, clausesOk, distinct, less, ascending, ranked, ordered, wordsOk, isTable, clauseOf, eventOf, sheetIn, readTable}
+use Rattle.table.specs.Layout.{settingsIn, countsIn, placesIn, eventIn, clauseIn, wordIn, partsIn, eventText, wordText}
+use Rattle.table.specs.Table.{settingsOk, countsOk, placesOk, headOk, follow, eventOk, eventsOk, clauseOk, valueUses, inOrder, clausesOk, wordsOk, partsOk, isTable, clauseOf, eventOf, sheetOf, readTable}
 
 unfoldable pub opened : Unit {0}
-unfolding opened-le opened-sheet compileDo settingsIn countsIn placesIn eventIn clauseIn wordIn rows eventsOf clausesOf keysOf valuesOf nameOf symbolOf eventText wordText settingsOk countsOk placesOk headOk follow clean wordOk eventOk eventsOk clauseOk valueUses inOrder clausesOk distinct less ascending ranked ordered wordsOk isTable clauseOf eventOf sheetIn readTable
+unfolding opened-list opened-le opened-sheet opened-words compileDo settingsIn countsIn placesIn eventIn clauseIn wordIn partsIn eventText wordText settingsOk countsOk placesOk headOk follow eventOk eventsOk clauseOk valueUses inOrder clausesOk wordsOk partsOk isTable clauseOf eventOf sheetOf readTable
 opened = tt

@@ -1,8 +1,8 @@
 -- The layout of a table: "a header of counts and offsets, then events, clauses, keys, values and texts without gaps, zeros after".
 -- A header of 76 bytes, rows of 16-bit numbers, then texts; all little-endian. Assumes nothing.
-use Prim.Native.Nat.{ℕ, zero, suc, _+_}
-use mathlib.Core.List.{List, [], _∷_}
-use lib.ListN.{drop}
+use Prim.Native.Nat.{ℕ, _+_, _-_}
+use mathlib.Core.List.{List}
+use Rattle.list.specs.Numbered.{rows}
 use Rattle.le.specs.Le.{part}
 use Rattle.le.specs.Field.{u16, u32}
 use Rattle.table.specs.declared.Settings.{Settings}
@@ -61,34 +61,47 @@ clauseIn l = record { kind = u16 l 0; key = u16 l 2; v1 = u16 l 4; v2 = u16 l 6;
 unfoldable pub wordIn : List ℕ → WordRow
 wordIn l = record { at = u16 l 0; len = u16 l 2; rank = u16 l 4; order = u16 l 6 }
 
--- n rows of w bytes each, from the start of l
-unfoldable pub rows {ℓ} : {X : Type ℓ} → (List ℕ → X) → ℕ → ℕ → List ℕ → List X
-rows f w zero l = []
-rows f w (suc n) l = f l ∷ rows f w n (drop w l)
+-- ---- the parts of a table
 
--- ---- the rows and texts of a table, as its header has them
+-- The events' names stand one after another in `names`, the keys in `keytexts`, the values in `valuetexts`; a row's `at` counts from
+-- the start of its own texts.
+pub record Parts : Type 0 where
+  pub settings : Settings
+  pub events : List EventRow
+  pub clauses : List ClauseRow
+  pub keys : List WordRow
+  pub values : List WordRow
+  pub name : List ℕ
+  pub symbol : List ℕ
+  pub names : List ℕ
+  pub keytexts : List ℕ
+  pub valuetexts : List ℕ
 
-unfoldable pub eventsOf : List ℕ → List EventRow
-eventsOf t = rows eventIn eventLength (countsIn t .events) (drop (placesIn t .events) t)
+-- the bytes from..to
+abbrev pub between : List ℕ → ℕ → ℕ → List ℕ
+between t from to = part t from (to - from)
 
-unfoldable pub clausesOf : List ℕ → List ClauseRow
-clausesOf t = rows clauseIn clauseLength (countsIn t .clauses) (drop (placesIn t .clauses) t)
+-- as the header has them
+unfoldable pub partsIn : List ℕ → Parts
+partsIn t =
+    let c = countsIn t in
+    let p = placesIn t in
+    record {
+      settings = settingsIn t;
+      events = rows eventIn eventLength (c .events) (between t (p .events) (p .clauses));
+      clauses = rows clauseIn clauseLength (c .clauses) (between t (p .clauses) (p .keys));
+      keys = rows wordIn wordLength (c .keys) (between t (p .keys) (p .values));
+      values = rows wordIn wordLength (c .values) (between t (p .values) (p .texts));
+      name = between t (p .texts) (p .texts + c .name);
+      symbol = between t (p .texts + c .name) (p .names);
+      names = between t (p .names) (p .keytexts);
+      keytexts = between t (p .keytexts) (p .valuetexts);
+      valuetexts = between t (p .valuetexts) (p .used);
+    }
 
-unfoldable pub keysOf : List ℕ → List WordRow
-keysOf t = rows wordIn wordLength (countsIn t .keys) (drop (placesIn t .keys) t)
-
-unfoldable pub valuesOf : List ℕ → List WordRow
-valuesOf t = rows wordIn wordLength (countsIn t .values) (drop (placesIn t .values) t)
-
--- the position's name and symbol
-unfoldable pub nameOf : List ℕ → List ℕ
-nameOf t = part t (placesIn t .texts) (countsIn t .name)
-
-unfoldable pub symbolOf : List ℕ → List ℕ
-symbolOf t = part t (placesIn t .texts + countsIn t .name) (countsIn t .symbol)
-
+-- the text of a row
 unfoldable pub eventText : List ℕ → EventRow → List ℕ
-eventText t e = part t (e .at) (e .len)
+eventText names e = part names (e .at) (e .len)
 
 unfoldable pub wordText : List ℕ → WordRow → List ℕ
-wordText t w = part t (w .at) (w .len)
+wordText texts w = part texts (w .at) (w .len)

@@ -5,6 +5,7 @@ pub mod Laws
 pub mod Same
 pub mod Conditions
 pub mod Parts
+pub mod Lines
 pub mod Digits
 pub mod Put
 pub mod Written

@@ -1,0 +1,64 @@
+-- What the code keeps of a bar's signals: places in their text and a fingerprint of each key; and the lines that these mean. Assumes nothing.
+use Prim.Native.Nat.{ℕ, _+_, _-_, _*_, _%_, _<_, _≤_}
+use mathlib.Core.Path.{_≡_}
+use mathlib.Core.List.{List, [], _∷_}
+use lib.ListN.{length, getD}
+use lib.Seq.{slice}
+use Rattle.list.specs.Numbered.{numbered}
+use Rattle.text.specs.Answer.{Answer, Refused, Got}
+use Rattle.event.specs.Signals.{Line, lineLimit, readSignals}
+use Rattle.event.specs.declared.SignalsRead.{SignalsRead}
+use Rattle.event.specs.declared.SignalsRead.the-variants.{Lines, PastLimit, NotUtf8, Malformed, Twice}
+
+-- a number that equal texts share, so that most unequal ones need no comparison
+unfoldable pub printFrom : ℕ → List ℕ → ℕ
+printFrom h [] = h
+printFrom h (x ∷ s) = printFrom ((h * 31 + x) % 4294967296) s
+
+abbrev pub print : List ℕ → ℕ
+print s = printFrom 0 s
+
+-- line i of s starts at starts[i], its `|` stands at mids[i], and the next line starts at starts[i + 1]
+abbrev pub keyAt : List ℕ → List ℕ → List ℕ → ℕ → List ℕ
+keyAt s starts mids i = slice (getD starts i 0) (getD mids i 0) s
+
+abbrev pub lineAt : List ℕ → List ℕ → List ℕ → ℕ → Line
+lineAt s starts mids i = record { key = keyAt s starts mids i; value = slice (getD mids i 0 + 1) (getD starts (i + 1) 0 - 1) s }
+
+-- n lines
+unfoldable pub linesAt : List ℕ → List ℕ → List ℕ → ℕ → List Line
+linesAt s starts mids n = numbered (lineAt s starts mids) n
+
+-- the places of a line follow each other within the text, and its print is its key's
+pub record LineOk (s starts mids prints : List ℕ) (i : ℕ) : Type 0 where
+  pub key : getD starts i 0 ≤ getD mids i 0
+  pub value : getD mids i 0 < getD starts (i + 1) 0 - 1
+  pub within : getD starts (i + 1) 0 ≤ length s
+  pub printed : getD prints i 0 ≡ print (keyAt s starts mids i)
+
+pub record LinesOk (s starts mids prints : List ℕ) (n : ℕ) : Type 0 where
+  pub starts-room : lineLimit < length starts
+  pub mids-room : lineLimit ≤ length mids
+  pub prints-room : lineLimit ≤ length prints
+  pub few : n ≤ lineLimit
+  pub lines : (i : ℕ) → i < n → LineOk s starts mids prints i
+
+-- the number and the lines of each answer
+abbrev pub signalsOf : List ℕ → List ℕ → List ℕ → SignalsRead → Answer (List Line)
+signalsOf s starts mids (Lines n) = Got (linesAt s starts mids n)
+signalsOf s starts mids PastLimit = Refused 7
+signalsOf s starts mids NotUtf8 = Refused 1
+signalsOf s starts mids Malformed = Refused 2
+signalsOf s starts mids Twice = Refused 12
+
+abbrev pub ReadOk : List ℕ → List ℕ → List ℕ → List ℕ → SignalsRead → Type 0
+ReadOk s starts mids prints (Lines n) = LinesOk s starts mids prints n
+ReadOk s starts mids prints PastLimit = Unit {0}
+ReadOk s starts mids prints NotUtf8 = Unit {0}
+ReadOk s starts mids prints Malformed = Unit {0}
+ReadOk s starts mids prints Twice = Unit {0}
+
+-- r is what s says, with the places and prints as they are at exit
+pub record SignalsAs (s starts mids prints : List ℕ) (r : SignalsRead) : Type 0 where
+  pub is : signalsOf s starts mids r ≡ readSignals s
+  pub ok : ReadOk s starts mids prints r

@@ -1,0 +1,3 @@
+-- The laws of lists by numbers.
+pub mod Laws
+pub mod Opened

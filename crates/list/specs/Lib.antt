@@ -1,0 +1,2 @@
+-- The definitions of lists by numbers.
+pub mod Numbered

@@ -1,0 +1,1 @@
+// Lists by the numbers of their elements: definitions (specs/) and laws; no function.

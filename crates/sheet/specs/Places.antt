@@ -1,0 +1,110 @@
+-- What the code keeps of a sheet that it read: places in its text and numbers; and the sheet that these mean. Assumes nothing.
+use Prim.Native.Nat.{ℕ, _+_, _*_, _<_, _≤_}
+use mathlib.Core.Path.{_≡_}
+use mathlib.Core.Bool.{true}
+use mathlib.Core.List.{List}
+use lib.Dec.{eqb}
+use lib.ListN.{length, getD, take, drop}
+use lib.Seq.{slice}
+use Rattle.list.specs.Numbered.{rows}
+use Rattle.le.specs.Le.{part}
+use Rattle.text.specs.Answer.{Answer, Refused, Got}
+use Rattle.signal.specs.Read.{SignalOk, signalIn}
+use Rattle.signal.specs.declared.SignalAt.{SignalAt}
+use Rattle.sheet.specs.Sheet.{kindOf, Clause, Event, Sheet, eventLimit, clauseLimit}
+use Rattle.sheet.specs.Read.{readSheet}
+use Rattle.sheet.specs.declared.SheetAt.{SheetAt}
+use Rattle.sheet.specs.declared.SheetRead.{SheetRead}
+use Rattle.sheet.specs.declared.SheetRead.the-variants.{Is, PastLimit, NotUtf8, Malformed, BadNumber, UnknownOperate, NotSeven, BadScore}
+
+-- ---- clauses: nine numbers each
+
+abbrev pub clauseNumbers : ℕ
+clauseNumbers = 9
+
+-- the kind, where the signal starts, then the places of its parts counted from there, and its score
+abbrev pub signalAt : List ℕ → SignalAt
+signalAt l =
+    record { k1 = getD l 2 0; k2 = getD l 3 0; k3 = getD l 4 0; v1 = getD l 5 0; v2 = getD l 6 0; v3 = getD l 7 0; score = getD l 8 0 }
+
+-- the clause whose numbers stand first in l
+unfoldable pub clauseAt : List ℕ → List ℕ → Clause
+clauseAt s l = record { kind = kindOf (getD l 0 0); signal = signalIn (drop (getD l 1 0) s) (signalAt l) }
+
+pub record ClauseOk (s l : List ℕ) : Type 0 where
+  pub kind : getD l 0 0 ≤ 2
+  pub within : getD l 1 0 ≤ length s
+  pub signal : SignalOk (drop (getD l 1 0) s) (signalAt l)
+
+-- ---- events: six numbers each
+
+abbrev pub eventNumbers : ℕ
+eventNumbers = 6
+
+-- 0 opening or 1 exit, the operate, where the name starts, its length, the first clause, how many clauses
+unfoldable pub eventAt : List ℕ → List Clause → List ℕ → Event
+eventAt s cs l =
+    record { exit = eqb (getD l 0 0) 1; operate = getD l 1 0; name = part s (getD l 2 0) (getD l 3 0); clauses = take (getD l 5 0) (drop (getD l 4 0) cs) }
+
+-- n clauses in all
+pub record EventOk (s : List ℕ) (n : ℕ) (l : List ℕ) : Type 0 where
+  pub kind : getD l 0 0 ≤ 1
+  pub operate : getD l 1 0 ≤ 6
+  pub name : getD l 2 0 + getD l 3 0 ≤ length s
+  pub clauses : getD l 4 0 + getD l 5 0 ≤ n
+
+-- ---- the sheet
+
+abbrev pub clausesAt : List ℕ → List ℕ → SheetAt → List Clause
+clausesAt s cs a = rows (clauseAt s) clauseNumbers (a .clauses) cs
+
+-- es and cs hold the numbers of the events and of the clauses
+unfoldable pub sheetAt : List ℕ → List ℕ → List ℕ → SheetAt → Sheet
+sheetAt s es cs a =
+    record {
+      name = slice 2 (a .name) s;
+      symbol = slice (a .name + 1) (a .symbol) s;
+      interval = a .interval;
+      timeout = a .timeout;
+      stop = a .stop;
+      t0 = eqb (a .t0) 1;
+      events = rows (eventAt s (clausesAt s cs a)) eventNumbers (a .events) es;
+    }
+
+-- places within the text, and spans that follow each other
+pub record SheetOk (s es cs : List ℕ) (a : SheetAt) : Type 0 where
+  pub name : 2 ≤ a .name
+  pub symbol : a .name < a .symbol
+  pub within : a .symbol < length s
+  pub few : a .events ≤ eventLimit
+  pub short : a .clauses ≤ clauseLimit
+  pub events : (i : ℕ) → i < a .events → EventOk s (a .clauses) (drop (eventNumbers * i) es)
+  pub clauses : (i : ℕ) → i < a .clauses → ClauseOk s (drop (clauseNumbers * i) cs)
+
+-- ---- the answers
+
+-- the number and the sheet of each answer
+abbrev pub sheetOf : List ℕ → List ℕ → List ℕ → SheetRead → Answer Sheet
+sheetOf s es cs (Is a) = Got (sheetAt s es cs a)
+sheetOf s es cs PastLimit = Refused 7
+sheetOf s es cs NotUtf8 = Refused 1
+sheetOf s es cs Malformed = Refused 2
+sheetOf s es cs BadNumber = Refused 3
+sheetOf s es cs UnknownOperate = Refused 4
+sheetOf s es cs NotSeven = Refused 5
+sheetOf s es cs BadScore = Refused 6
+
+abbrev pub ReadOk : List ℕ → List ℕ → List ℕ → SheetRead → Type 0
+ReadOk s es cs (Is a) = SheetOk s es cs a
+ReadOk s es cs PastLimit = Unit {0}
+ReadOk s es cs NotUtf8 = Unit {0}
+ReadOk s es cs Malformed = Unit {0}
+ReadOk s es cs BadNumber = Unit {0}
+ReadOk s es cs UnknownOperate = Unit {0}
+ReadOk s es cs NotSeven = Unit {0}
+ReadOk s es cs BadScore = Unit {0}
+
+-- r is what s says, with es and cs as they are at exit
+pub record SheetAs (s es cs : List ℕ) (r : SheetRead) : Type 0 where
+  pub is : sheetOf s es cs r ≡ readSheet s
+  pub ok : ReadOk s es cs r

@@ -1,0 +1,2 @@
+-- The laws of a table's words.
+pub mod Opened

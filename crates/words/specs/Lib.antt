@@ -1,0 +1,2 @@
+-- The definitions of a table's words.
+pub mod Words

@@ -1,0 +1,1 @@
+// The words of a table: no function yet.
