@@ -1,5 +1,5 @@
 -- What the code keeps of a sheet that it read: places in its text and numbers; and the sheet that these mean. Assumes nothing.
-use Prim.Native.Nat.{ℕ, _+_, _*_, _<_, _≤_}
+use Prim.Native.Nat.{ℕ, zero, suc, _+_, _*_, _<_, _≤_}
 use mathlib.Core.Path.{_≡_}
 use mathlib.Core.Bool.{true}
 use mathlib.Core.List.{List}
@@ -46,12 +46,17 @@ unfoldable pub eventAt : List ℕ → List Clause → List ℕ → Event
 eventAt s cs l =
     record { exit = eqb (getD l 0 0) 1; operate = getD l 1 0; name = part s (getD l 2 0) (getD l 3 0); clauses = take (getD l 5 0) (drop (getD l 4 0) cs) }
 
--- n clauses in all
-pub record EventOk (s : List ℕ) (n : ℕ) (l : List ℕ) : Type 0 where
+-- how many clauses the first n events have
+unfoldable pub clausesBefore : List ℕ → ℕ → ℕ
+clausesBefore es zero = 0
+clausesBefore es (suc n) = clausesBefore es n + getD (drop (eventNumbers * n) es) 5 0
+
+-- its numbers l, where `before` clauses belong to earlier events
+pub record EventOk (s : List ℕ) (before : ℕ) (l : List ℕ) : Type 0 where
   pub kind : getD l 0 0 ≤ 1
   pub operate : getD l 1 0 ≤ 6
   pub name : getD l 2 0 + getD l 3 0 ≤ length s
-  pub clauses : getD l 4 0 + getD l 5 0 ≤ n
+  pub clauses : getD l 4 0 ≡ before
 
 -- ---- the sheet
 
@@ -78,7 +83,8 @@ pub record SheetOk (s es cs : List ℕ) (a : SheetAt) : Type 0 where
   pub within : a .symbol < length s
   pub few : a .events ≤ eventLimit
   pub short : a .clauses ≤ clauseLimit
-  pub events : (i : ℕ) → i < a .events → EventOk s (a .clauses) (drop (eventNumbers * i) es)
+  pub events : (i : ℕ) → i < a .events → EventOk s (clausesBefore es i) (drop (eventNumbers * i) es)
+  pub all : clausesBefore es (a .events) ≡ a .clauses
   pub clauses : (i : ℕ) → i < a .clauses → ClauseOk s (drop (clauseNumbers * i) cs)
 
 -- ---- the answers

@@ -1,2 +1,7 @@
--- The laws of a table's words.
+-- The laws of a table's words, and worked examples.
+pub mod Plain
+pub mod Fit
+pub mod Total
+pub mod Apart
+mod Examples
 pub mod Opened

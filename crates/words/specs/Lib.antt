@@ -1,2 +1,3 @@
--- The definitions of a table's words.
+-- The definitions of a table's words, and what the code's answers mean.
 pub mod Words
+pub mod Read
