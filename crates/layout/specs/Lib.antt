@@ -1,0 +1,2 @@
+-- The definitions of the bytes that compiling writes.
+pub mod Build
