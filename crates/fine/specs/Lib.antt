@@ -1,0 +1,2 @@
+-- The definitions of a sheet within its limits.
+pub mod Fine
