@@ -5,13 +5,11 @@ use mathlib.Core.Bool.{Bool, true, false, _&&_}
 use mathlib.Core.List.{List}
 use mathlib.Core.Path.{_≡_, refl}
 use lib.ListN.{length, length-map}
-use borrow.Author.Tests.{leb-true, eqb-true}
-use Rattle.list.proofs.Laws.{rows-length}
 use Rattle.text.specs.Answer.{Got, _>>=_, must}
-use Rattle.text.proofs.Conditions.{fact}
 use Rattle.sheet.specs.Sheet.{Sheet, eventLimit}
-use Rattle.table.specs.Layout.{tableLength, eventLength, countsIn, placesIn, eventIn, between, partsIn}
-use Rattle.table.specs.Table.{countsOk, headOk, partsOk, isTable, sheetOf, readTable}
+use Rattle.table.specs.Layout.{tableLength, countsIn, partsIn}
+use Rattle.table.specs.Table.{headOk, partsOk, isTable, sheetOf, readTable}
+use Rattle.table.proofs.Heads.{headed, events-many}
 
 -- the bytes are a table, and the sheet is theirs
 pub read-is : (t : List ℕ) (s : Sheet) → readTable t ≡ Got s → (isTable t ≡ true) × (sheetOf (partsIn t) ≡ s)
@@ -32,22 +30,13 @@ table-facts t e = go (headOk t) (partsOk (partsIn t)) e
     go false b e = absurd (let z : _≡_ {A = ℕ} 0 1 = cc in omega arith)
 
 pub table-length : (t : List ℕ) (s : Sheet) → readTable t ≡ Got s → length t ≡ tableLength
-unfolding headOk
-table-length t s e = eqb-true (length t) tableLength (fact _ (table-facts t (read-is t s e .0) .0) 0)
-
-counts-ok : (t : List ℕ) → headOk t ≡ true → countsOk (countsIn t) ≡ true
-unfolding headOk
-counts-ok t e = fact _ e 2
-
-events-few : (t : List ℕ) → countsOk (countsIn t) ≡ true → countsIn t .events ≤ eventLimit
-unfolding countsOk
-events-few t e = leb-true (countsIn t .events) eventLimit (fact _ e 0)
+table-length t s e = headed t (table-facts t (read-is t s e .0) .0) .size
 
 events-count : (t : List ℕ) → length (sheetOf (partsIn t) .events) ≡ countsIn t .events
-unfolding sheetOf partsIn
-events-count t = rw length-map (rows-length eventIn eventLength (countsIn t .events) (between t (placesIn t .events) (placesIn t .clauses)))
+unfolding sheetOf
+events-count t = rw length-map (events-many t)
 
 pub table-events : (t : List ℕ) (s : Sheet) → readTable t ≡ Got s → length (s .events) ≤ eventLimit
 table-events t s e =
     let r = read-is t s e in
-    rw (← r .1, events-count t) (events-few t (counts-ok t (table-facts t (r .0) .0)))
+    rw (← r .1, events-count t) (headed t (table-facts t (r .0) .0) .events-few)

@@ -2,3 +2,4 @@
 pub mod Layout
 pub mod Table
 pub mod Compile
+pub mod Read

@@ -1,5 +1,23 @@
-// The compiled table: the values of its header and of its rows. Which bytes are a table and which sheet they mean are definitions
-// (specs/); no function yet.
+// The compiled table: the values of its header and of its rows, and reading them. Which bytes are a table and which sheet they mean
+// are definitions (specs/).
+use le::get_u16;
+use le::get_u32;
+ghost use mathlib.Core.Path.{_≡_};
+ghost use Prim.Native.Nat.{_+_, _*_, _≤_};
+ghost use lib.ListN.{length};
+ghost use Rattle.table.specs.Layout.{headLength, eventLength, clauseLength, wordLength, settingsIn, countsIn, placesIn};
+ghost use Rattle.table.specs.Read.{EventAt, ClauseAt, WordAt};
+
+// The lengths of a table, of its header and of the rows of each kind.
+pub const TABLE_LENGTH: usize = 32768;
+
+pub const HEAD_LENGTH: usize = 76;
+
+pub const EVENT_LENGTH: usize = 12;
+
+pub const CLAUSE_LENGTH: usize = 12;
+
+pub const WORD_LENGTH: usize = 8;
 
 // The settings of a position.
 pub struct Settings {
@@ -58,4 +76,96 @@ pub struct WordRow {
     pub len: u16,
     pub rank: u16,
     pub order: u16,
+}
+
+// The settings in the header of t.
+pub fn read_settings(t: &[u8]) -> Settings
+    requires { ⌜ headLength ≤ length (now t) ⌝ }
+    ensures { λ r. ⌜ r ≡ settingsIn (now (t .entry)) ⌝ }
+{
+    Settings {
+        interval: get_u32(t, 0),
+        timeout: get_u32(t, 4),
+        stop: get_u32(t, 8),
+        t0: get_u32(t, 12),
+    }
+}
+
+// The counts in the header of t.
+pub fn read_counts(t: &[u8]) -> Counts
+    requires { ⌜ headLength ≤ length (now t) ⌝ }
+    ensures { λ r. ⌜ r ≡ countsIn (now (t .entry)) ⌝ }
+{
+    Counts {
+        events: get_u32(t, 16),
+        clauses: get_u32(t, 20),
+        keys: get_u32(t, 24),
+        values: get_u32(t, 28),
+        name: get_u32(t, 32),
+        symbol: get_u32(t, 36),
+    }
+}
+
+// The places in the header of t.
+pub fn read_places(t: &[u8]) -> Places
+    requires { ⌜ headLength ≤ length (now t) ⌝ }
+    ensures { λ r. ⌜ r ≡ placesIn (now (t .entry)) ⌝ }
+{
+    Places {
+        events: get_u32(t, 40),
+        clauses: get_u32(t, 44),
+        keys: get_u32(t, 48),
+        values: get_u32(t, 52),
+        texts: get_u32(t, 56),
+        names: get_u32(t, 60),
+        keytexts: get_u32(t, 64),
+        valuetexts: get_u32(t, 68),
+        used: get_u32(t, 72),
+    }
+}
+
+// Event number i of the rows.
+pub fn event_at(rows: &[u8], i: usize) -> EventRow
+    requires { ⌜ eventLength * i + eventLength ≤ length (now rows) ⌝ }
+    ensures { λ r. ⌜ EventAt (now (rows .entry)) i r ⌝ }
+{
+    let p = EVENT_LENGTH * i;
+    EventRow {
+        kind: get_u16(rows, p),
+        operate: get_u16(rows, p + 2),
+        at: get_u16(rows, p + 4),
+        len: get_u16(rows, p + 6),
+        first: get_u16(rows, p + 8),
+        count: get_u16(rows, p + 10),
+    }
+}
+
+// Clause number i of the rows.
+pub fn clause_at(rows: &[u8], i: usize) -> ClauseRow
+    requires { ⌜ clauseLength * i + clauseLength ≤ length (now rows) ⌝ }
+    ensures { λ r. ⌜ ClauseAt (now (rows .entry)) i r ⌝ }
+{
+    let p = CLAUSE_LENGTH * i;
+    ClauseRow {
+        kind: get_u16(rows, p),
+        key: get_u16(rows, p + 2),
+        v1: get_u16(rows, p + 4),
+        v2: get_u16(rows, p + 6),
+        v3: get_u16(rows, p + 8),
+        score: get_u16(rows, p + 10),
+    }
+}
+
+// Key or value number i of the rows.
+pub fn word_at(rows: &[u8], i: usize) -> WordRow
+    requires { ⌜ wordLength * i + wordLength ≤ length (now rows) ⌝ }
+    ensures { λ r. ⌜ WordAt (now (rows .entry)) i r ⌝ }
+{
+    let p = WORD_LENGTH * i;
+    WordRow {
+        at: get_u16(rows, p),
+        len: get_u16(rows, p + 2),
+        rank: get_u16(rows, p + 4),
+        order: get_u16(rows, p + 6),
+    }
 }

@@ -3,5 +3,6 @@ pub mod Plain
 pub mod Fit
 pub mod Total
 pub mod Apart
+pub mod Sorted
 mod Examples
 pub mod Opened
