@@ -1,3 +1,7 @@
--- The laws of matching.
+-- The laws of a bar's signals and of matching.
+pub mod Prints
+pub mod Seek
+pub mod Fields
+pub mod Adding
 pub mod Opened
 mod Examples

@@ -2,3 +2,4 @@
 pub mod Signals
 pub mod Match
 pub mod Places
+pub mod Steps

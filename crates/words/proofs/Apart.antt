@@ -97,18 +97,18 @@ distinct-sure (d ∷ ds) h =
         go true e = absurd (let z : 0 ≡ suc i = h 0 (suc i) (omega arith) (omega arith) (same-eq d (getD ds i []) e) in omega arith)
         go false e = refl
 
--- "keys and values are distinct" where each has its rank among orders by rising text
-pub apart : (texts : List (List ℕ)) (os rs : List ℕ) → ordered texts os rs ≡ true → length rs ≡ length texts → distinct texts ≡ true
+-- words whose orders and ranks are right are the same only at the same place
+pub apart-at : (texts : List (List ℕ)) (os rs : List ℕ) → ordered texts os rs ≡ true → length rs ≡ length texts
+    → (i j : ℕ) → i < length texts → j < length texts → getD texts i [] ≡ getD texts j [] → i ≡ j
 unfolding ordered
-apart texts os rs o n =
-    distinct-sure texts
-    (λ i j hi hj e. places (ranked-at os rs (fact _ o 1) i (omega arith)) (ranked-at os rs (fact _ o 1) j (omega arith)) e)
+apart-at texts os rs o n i j hi hj e =
+    places (ranked-at os rs (fact _ o 1) i (omega arith)) (ranked-at os rs (fact _ o 1) j (omega arith))
   where
     never : (p q : ℕ) → p < q → q < length os → getD texts (getD os p 0) [] ≡ getD texts (getD os q 0) [] → ⊥
     never p q h k e = false≢true (sym (less-irrefl (getD texts (getD os q 0) [])) ∙ (rw e at (ascending-pair texts os (fact _ o 2) p q h k)))
 
-    places : {i j p q : ℕ} → RankedAt os i p → RankedAt os j q → getD texts i [] ≡ getD texts j [] → i ≡ j
-    places {i} {j} {p} {q} a b e =
+    places : {p q : ℕ} → RankedAt os i p → RankedAt os j q → i ≡ j
+    places {p} {q} a b =
         let t : getD texts (getD os p 0) [] ≡ getD texts (getD os q 0) [] = rw (a .is, b .is) e in
         elim (decLt p q) [
           | yes l ↦ absurd (never p q l (b .within) t)
@@ -117,3 +117,7 @@ apart texts os rs o n =
             | no m ↦ let z : p ≡ q = omega arith in sym (a .is) ∙ ap (λ k. getD os k 0) z ∙ b .is
           ]
         ]
+
+-- "keys and values are distinct" where each has its rank among orders by rising text
+pub apart : (texts : List (List ℕ)) (os rs : List ℕ) → ordered texts os rs ≡ true → length rs ≡ length texts → distinct texts ≡ true
+apart texts os rs o n = distinct-sure texts (apart-at texts os rs o n)

@@ -1,35 +1,16 @@
--- Texts free of marks: the byte that decides, and the invariant of `is_plain`. Assumes nothing.
+-- Texts free of marks: one byte after another, and the invariant of `is_plain`. Assumes nothing.
 use mathlib.Core.Path.{_≡_, _∙_, refl, sym}
-use mathlib.Core.Logic.{_≢_}
 use mathlib.Core.Bool.{Bool, true, false, not, _||_}
 use mathlib.Core.List.{List, [], _∷_}
 use Prim.Native.Nat.{ℕ, suc, _+_, _≤_, _<_}
 use native.Mathlib.Numerals.{add-one}
 use native.Mathlib.Omega.{arith}
-use borrow.Author.Tests.{eq-eqb, ne-eqb}
 use lib.Dec.{eqb}
 use lib.ListN.{length, getD, drop, drop-of-length-le}
 use lib.Seq.{drop-cons}
 use Rattle.text.specs.Text.{has, LF, pipe}
 use Rattle.text.specs.Conditions.{allOf}
 use Rattle.words.specs.Read.{isMark, plain}
-
--- ---- `met`
-
-pub met-pipe : (before : Bool) {b : ℕ} → b ≡ pipe → true ≡ (before || isMark b)
-met-pipe true e = refl
-met-pipe false e = rw (eq-eqb _ _ e)
-
-module _ {b : ℕ} (n : b ≢ pipe) where
-  pub met-line : (before : Bool) → b ≡ LF → true ≡ (before || isMark b)
-  met-line true e = refl
-  met-line false e = rw (ne-eqb _ _ n, eq-eqb _ _ e)
-
-  pub met-none : (before : Bool) → b ≢ LF → before ≡ (before || isMark b)
-  met-none true e = refl
-  met-none false e = rw (ne-eqb _ _ n, ne-eqb _ _ e)
-
--- ---- `is_plain`
 
 -- up to i a mark was met or not, and from there on none may come
 pub record Marking (s : List ℕ) (marked : Bool) (i : ℕ) : Type 0 where
@@ -58,8 +39,8 @@ marking-first s = record { le = omega arith; still = go (not (has pipe s)) (not 
     go false q = refl
 
 module _ {s : List ℕ} {marked : Bool} {i : ℕ} (m : Marking s marked i) where
-  pub marking-more : i < length s → (b : Bool) → b ≡ (marked || isMark (getD s i 0)) → Marking s b (i + 1)
-  marking-more h b e = record { le = omega arith; still = m .still ∙ rw (add-one, drop-cons s i 0 h, e) (plain-one marked (getD s i 0) (drop (suc i) s)) }
+  pub marking-more : i < length s → Marking s (marked || isMark (getD s i 0)) (i + 1)
+  marking-more h = record { le = omega arith; still = m .still ∙ rw (add-one, drop-cons s i 0 h) (plain-one marked (getD s i 0) (drop (suc i) s)) }
 
   pub marking-last : length s ≤ i → not marked ≡ plain s
   unfolding allOf has

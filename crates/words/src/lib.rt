@@ -5,10 +5,9 @@ use text::PIPE;
 use text::UNDERSCORE;
 use text::find;
 ghost use mathlib.Core.Path.{_≡_};
-ghost use mathlib.Core.Bool.{_||_};
 ghost use Rattle.text.specs.Text.{split, underscore};
 ghost use Rattle.words.specs.Words.{clean, wordOk};
-ghost use Rattle.words.specs.Read.{isMark, plain, fit, orderOf};
+ghost use Rattle.words.specs.Read.{plain, fit, orderOf};
 
 // How one text stands to another, byte by byte.
 pub enum Order {
@@ -17,20 +16,7 @@ pub enum Order {
     More,
 }
 
-// Whether a mark was met: before, or as the byte b.
-fn met(before: bool, b: u8) -> bool
-    ensures { λ r. ⌜ r ≡ before || isMark b ⌝ }
-{
-    if b == PIPE {
-        return true;
-    }
-    if b == LF {
-        return true;
-    }
-    before
-}
-
-// Whether s is free of | and LF: the loop has no way out before the end, so that the compiler looks at many bytes at once.
+// Whether s is free of | and LF: the loop has no way out before the end and no branch, so that the compiler looks at many bytes at once.
 fn is_plain(s: &[u8]) -> bool
     ensures { λ r. ⌜ r ≡ plain (now (s .entry)) ⌝ }
 {
@@ -38,7 +24,8 @@ fn is_plain(s: &[u8]) -> bool
     let mut marked = false;
     let mut i: usize = 0;
     while i < n {
-        marked = met(marked, s[i]);
+        let b = s[i];
+        marked = marked | ((b == PIPE) | (b == LF));
         i += 1;
     }
     !marked

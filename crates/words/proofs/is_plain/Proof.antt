@@ -16,21 +16,10 @@ loop-holds : tie.Need-loop-holds Inv-loop μ-loop
 loop-holds c = marking-first _
 
 loop-again : tie.Need-loop-again Inv-loop μ-loop
-loop-again c = marking-more (c .before .before .before .loop .inv) (c .before .before .loop-test .taken) _ (c .met .ensures)
+loop-again c = marking-more (c .before .before .loop .inv) (c .before .loop-test .taken)
 
 returns : tie.Need-returns Inv-loop μ-loop
 returns c = marking-last (c .before .loop .inv) (c .loop-test .left)
 
 pub is-plain-spec : {M : Type 1} → statement M
-is-plain-spec =
-    tie.close
-    (tie.spec
-    Inv-loop
-    μ-loop
-    loop-holds
-    (λ c. search needs)
-    (λ c κs. search needs)
-    (λ c. search needs)
-    (λ c. search needs)
-    loop-again
-    returns)
+is-plain-spec = tie.close (tie.spec Inv-loop μ-loop loop-holds (λ c. search needs) (λ c. search needs) (λ c. search needs) loop-again returns)
