@@ -1,7 +1,7 @@
 -- What is known of a table whose header is right: its counts, its places, and the lengths of its parts. Assumes nothing.
-use Prim.Native.Nat.{ℕ, _+_, _-_, _*_, _≤_}
+use Prim.Native.Nat.{ℕ, _-_, _≤_}
 use native.Mathlib.Omega.{arith}
-use mathlib.Core.Bool.{Bool, true, false}
+use mathlib.Core.Bool.{true}
 use mathlib.Core.List.{List}
 use mathlib.Core.Path.{_≡_, refl}
 use lib.ListN.{length, take, drop, length-take, length-drop}
@@ -9,12 +9,9 @@ use borrow.Author.Tests.{leb-true, eqb-true}
 use Rattle.list.proofs.Laws.{rows-length}
 use Rattle.le.specs.Le.{part}
 use Rattle.text.proofs.Conditions.{fact}
-use Rattle.sheet.specs.Sheet.{eventLimit, clauseLimit, nameLimit}
-use Rattle.table.specs.Layout.{tableLength, headLength, eventLength, clauseLength, wordLength, countsIn, placesIn, eventIn, clauseIn, wordIn, between, partsIn}
+use Rattle.table.specs.Layout.{tableLength, eventLength, clauseLength, wordLength, countsIn, placesIn, eventIn, clauseIn, wordIn, between, partsIn}
 use Rattle.table.specs.Table.{countsOk, placesOk, headOk}
 use Rattle.table.specs.Read.{Headed}
-use Rattle.table.specs.declared.Counts.{Counts}
-use Rattle.table.specs.declared.Places.{Places}
 
 -- ---- the header
 

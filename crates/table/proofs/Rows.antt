@@ -1,10 +1,10 @@
 -- A row's fields are those at its place among the rows. Assumes nothing.
-use Prim.Native.Nat.{ℕ, _+_, _*_}
+use Prim.Native.Nat.{ℕ, _+_}
 use mathlib.Core.Path.{_≡_, refl}
 use mathlib.Core.List.{List}
 use lib.ListN.{drop}
 use lib.Seq.{drop-drop}
-use Rattle.le.specs.Le.{part, leNat}
+use Rattle.le.specs.Le.{part}
 use Rattle.le.specs.Field.{u16}
 use Rattle.table.specs.Layout.{eventIn, clauseIn, wordIn}
 

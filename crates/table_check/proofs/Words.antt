@@ -1,0 +1,75 @@
+-- A walk over keys or values: where their texts lie, and the invariant of `words_laid`. Assumes nothing.
+use Prim.Native.Nat.{ℕ, _+_, _-_, _*_, _≤_, _<_}
+use native.Mathlib.Omega.{arith}
+use mathlib.Core.Bool.{Bool, true, false, cond}
+use mathlib.Core.List.{List, [], _∷_}
+use mathlib.Core.Path.{_≡_, refl, sym, _∙_}
+use lib.Dec.{leb, eqb}
+use lib.ListN.{length, take, drop}
+use borrow.Author.Tests.{eqb-true, leb-false}
+use Rattle.text.specs.Conditions.{allOf, every}
+use Rattle.words.specs.Words.{wordOk}
+use Rattle.table.specs.Layout.{wordLength, wordIn, wordText}
+use Rattle.table.specs.Table.{follow}
+use Rattle.table.specs.Read.{WordAt}
+use Rattle.table.specs.declared.WordRow.{WordRow}
+use Rattle.table.proofs.Spans.{follow-past}
+use Rattle.table_check.specs.Check.{wordRows, textsOf, wordAsked, laid}
+use Rattle.table_check.proofs.Conditions.{broken}
+use Rattle.table_check.proofs.Walks.{rows-more, rows-end, part-lent}
+
+-- a text as it is lent
+pub text-lent : (texts : List ℕ) (w : WordRow) → take (w .at + w .len - w .at) (drop (w .at) texts) ≡ wordText texts w
+unfolding wordText
+text-lent texts w = part-lent texts (w .at) (w .len)
+
+-- ---- `words_laid`
+
+module _ (n : ℕ) (texts : List ℕ) (w : WordRow) (ws : List WordRow) where
+  abbrev spanned : ℕ → Bool
+  spanned f = follow (λ (x : WordRow). x .at) (λ x. x .len) f (length texts) ws
+
+  abbrev sound : Bool
+  sound = every (wordOk n) (textsOf texts ws)
+
+  word-first : (f : ℕ) → laid n texts f (w ∷ ws) ≡ cond (allOf (wordAsked n texts w f)) (laid n texts (w .at + w .len) ws) false
+  unfolding laid every follow allOf
+  word-first f = go (eqb (w .at) f) (leb (w .at + w .len) (length texts)) (wordOk n (wordText texts w)) refl refl
+    where
+      go : (a l o : Bool) → eqb (w .at) f ≡ a → leb (w .at + w .len) (length texts) ≡ l
+          → allOf (cond a (spanned (f + w .len)) false ∷ cond o sound false ∷ [])
+          ≡ cond (allOf (a ∷ l ∷ o ∷ [])) (allOf (spanned (w .at + w .len) ∷ sound ∷ [])) false
+      go true true true h k = rw (eqb-true (w .at) f h)
+      go true true false h k = sym (broken (spanned (f + w .len) ∷ false ∷ []) 1 refl)
+      go true false o h k =
+          let s = leb-false (w .at + w .len) (length texts) k in
+          let z = eqb-true (w .at) f h in
+          sym (broken (spanned (f + w .len) ∷ cond o sound false ∷ []) 0 (follow-past (λ (x : WordRow). x .at) (λ x. x .len) (f + w .len) (length texts) ws (omega (arith, s, z))))
+      go false l o h k = refl
+
+pub record Laying (l texts : List ℕ) (n limit f i : ℕ) : Type 0 where
+  pub le : i ≤ n
+  pub room : wordLength * n ≤ length l
+  pub still : laid limit texts 0 (wordRows n l) ≡ laid limit texts f (drop i (wordRows n l))
+
+pub laying-first : (l texts : List ℕ) (n limit : ℕ) → wordLength * n ≤ length l → Laying l texts n limit 0 0
+laying-first l texts n limit h = record { le = omega arith; room = h; still = refl }
+
+module _ {l texts : List ℕ} {n limit f i : ℕ} (y : Laying l texts n limit f i) where
+  pub laying-last : n ≤ i → eqb f (length texts) ≡ laid limit texts 0 (wordRows n l)
+  unfolding laid every follow allOf
+  laying-last h = sym (y .still ∙ rw (rows-end wordIn wordLength n l i h) (go (eqb f (length texts))))
+    where
+      go : (b : Bool) → cond b true false ≡ b
+      go true = refl
+      go false = refl
+
+  module _ (h : i < n) {w : WordRow} (r : WordAt l i w) where
+    turn : laid limit texts 0 (wordRows n l) ≡ cond (allOf (wordAsked limit texts w f)) (laid limit texts (w .at + w .len) (drop (i + 1) (wordRows n l))) false
+    turn = y .still ∙ rw (rows-more wordIn wordLength n l i h, ← r .is) (word-first limit texts w (drop (i + 1) (wordRows n l)) f)
+
+    pub laying-off : allOf (wordAsked limit texts w f) ≡ false → false ≡ laid limit texts 0 (wordRows n l)
+    laying-off e = sym (turn ∙ rw e)
+
+    pub laying-more : allOf (wordAsked limit texts w f) ≡ true → Laying l texts n limit (w .at + w .len) (i + 1)
+    laying-more e = record { le = omega arith; room = y .room; still = turn ∙ rw e }
