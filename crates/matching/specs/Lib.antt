@@ -1,0 +1,3 @@
+-- The definitions of matching over a compiled table.
+pub mod Rows
+pub mod First
