@@ -9,6 +9,7 @@ use Rattle.text.specs.Literal.{bytes}
 use Rattle.operate.specs.Operate.{LO, LE}
 use Rattle.sheet.specs.Sheet.{All, Any, Not, Sheet, clauseCount}
 use Rattle.sheet.specs.Read.{readSheet}
+use Rattle.sheet.specs.Places.{sheetAt}
 use Rattle.sheet.proofs.Opened.{opened}
 
 -- a first line, and what follows it
@@ -47,6 +48,14 @@ in-order : after (bytes "O|开多|a\nN|a_b_c_1_2_3_4\nA|a_b_c_5_任意_7_8\nY|�
     })
 unfolding opened
 in-order = refl
+
+-- the numbers that the code keeps of a sheet mean that sheet
+kept : List ℕ
+kept = bytes "P|n|s|7|6|5|1\nO|LO|a\nY|a_b_c_1_2_3_4\n"
+
+numbers : Got (sheetAt kept (0 ∷ 3 ∷ 19 ∷ 1 ∷ 0 ∷ 1 ∷ []) (1 ∷ 23 ∷ 1 ∷ 3 ∷ 5 ∷ 7 ∷ 9 ∷ 11 ∷ 4 ∷ []) (record { name = 3; symbol = 5; interval = 7; timeout = 6; stop = 5; t0 = 1; events = 1; clauses = 1 })) ≡ readSheet kept
+unfolding opened kept
+numbers = refl
 
 -- every limit, with zeros in front; empty names
 at-limits : readSheet (bytes "P|||4102444800|2147483647|0001000000|01\n")

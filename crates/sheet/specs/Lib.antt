@@ -2,3 +2,4 @@
 pub mod Sheet
 pub mod Read
 pub mod Places
+pub mod Lines

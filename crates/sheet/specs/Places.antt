@@ -1,7 +1,6 @@
 -- What the code keeps of a sheet that it read: places in its text and numbers; and the sheet that these mean. Assumes nothing.
 use Prim.Native.Nat.{ℕ, zero, suc, _+_, _*_, _<_, _≤_}
 use mathlib.Core.Path.{_≡_}
-use mathlib.Core.Bool.{true}
 use mathlib.Core.List.{List}
 use lib.Dec.{eqb}
 use lib.ListN.{length, getD, take, drop}
@@ -11,7 +10,7 @@ use Rattle.le.specs.Le.{part}
 use Rattle.text.specs.Answer.{Answer, Refused, Got}
 use Rattle.signal.specs.Read.{SignalOk, signalIn}
 use Rattle.signal.specs.declared.SignalAt.{SignalAt}
-use Rattle.sheet.specs.Sheet.{kindOf, Clause, Event, Sheet, eventLimit, clauseLimit}
+use Rattle.sheet.specs.Sheet.{kindOf, Clause, Event, Sheet, eventLimit, clauseLimit, nameLimit, intervalLimit, timeoutLimit, stopLimit, t0Limit}
 use Rattle.sheet.specs.Read.{readSheet}
 use Rattle.sheet.specs.declared.SheetAt.{SheetAt}
 use Rattle.sheet.specs.declared.SheetRead.{SheetRead}
@@ -46,16 +45,21 @@ unfoldable pub eventAt : List ℕ → List Clause → List ℕ → Event
 eventAt s cs l =
     record { exit = eqb (getD l 0 0) 1; operate = getD l 1 0; name = part s (getD l 2 0) (getD l 3 0); clauses = take (getD l 5 0) (drop (getD l 4 0) cs) }
 
+-- number j of event i
+abbrev pub eventNumber : List ℕ → ℕ → ℕ → ℕ
+eventNumber es i j = getD (drop (eventNumbers * i) es) j 0
+
 -- how many clauses the first n events have
 unfoldable pub clausesBefore : List ℕ → ℕ → ℕ
 clausesBefore es zero = 0
-clausesBefore es (suc n) = clausesBefore es n + getD (drop (eventNumbers * n) es) 5 0
+clausesBefore es (suc n) = clausesBefore es n + eventNumber es n 5
 
 -- its numbers l, where `before` clauses belong to earlier events
 pub record EventOk (s : List ℕ) (before : ℕ) (l : List ℕ) : Type 0 where
   pub kind : getD l 0 0 ≤ 1
   pub operate : getD l 1 0 ≤ 6
   pub name : getD l 2 0 + getD l 3 0 ≤ length s
+  pub brief : getD l 3 0 ≤ nameLimit
   pub clauses : getD l 4 0 ≡ before
 
 -- ---- the sheet
@@ -76,16 +80,27 @@ sheetAt s es cs a =
       events = rows (eventAt s (clausesAt s cs a)) eventNumbers (a .events) es;
     }
 
--- places within the text, and spans that follow each other
+-- the settings are in range
+pub record SettingsOk (a : SheetAt) : Type 0 where
+  pub interval : a .interval ≤ intervalLimit
+  pub timeout : a .timeout ≤ timeoutLimit
+  pub stop : a .stop ≤ stopLimit
+  pub t0 : a .t0 ≤ t0Limit
+
+-- places within the text, counts and settings in range, clauses that follow each other, openings before exits
 pub record SheetOk (s es cs : List ℕ) (a : SheetAt) : Type 0 where
   pub name : 2 ≤ a .name
   pub symbol : a .name < a .symbol
   pub within : a .symbol < length s
+  pub brief-name : a .name ≤ 2 + nameLimit
+  pub brief-symbol : a .symbol ≤ a .name + 1 + nameLimit
+  pub settings : SettingsOk a
   pub few : a .events ≤ eventLimit
   pub short : a .clauses ≤ clauseLimit
   pub events : (i : ℕ) → i < a .events → EventOk s (clausesBefore es i) (drop (eventNumbers * i) es)
   pub all : clausesBefore es (a .events) ≡ a .clauses
   pub clauses : (i : ℕ) → i < a .clauses → ClauseOk s (drop (clauseNumbers * i) cs)
+  pub rise : (i : ℕ) → suc i < a .events → eventNumber es i 0 ≤ eventNumber es (suc i) 0
 
 -- ---- the answers
 
@@ -110,7 +125,11 @@ ReadOk s es cs UnknownOperate = Unit {0}
 ReadOk s es cs NotSeven = Unit {0}
 ReadOk s es cs BadScore = Unit {0}
 
--- r is what s says, with es and cs as they are at exit
-pub record SheetAs (s es cs : List ℕ) (r : SheetRead) : Type 0 where
-  pub is : sheetOf s es cs r ≡ readSheet s
+-- r is the answer x, with es and cs as they are at exit
+pub record SheetIs (s es cs : List ℕ) (x : Answer Sheet) (r : SheetRead) : Type 0 where
+  pub is : sheetOf s es cs r ≡ x
   pub ok : ReadOk s es cs r
+
+-- r is what s says
+abbrev pub SheetAs : List ℕ → List ℕ → List ℕ → SheetRead → Type 0
+SheetAs s es cs r = SheetIs s es cs (readSheet s) r

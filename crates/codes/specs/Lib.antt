@@ -1,0 +1,2 @@
+-- The definitions of numbering keys and values.
+pub mod Read

@@ -1,0 +1,168 @@
+// The numbers that a sheet's clauses have in a table: the number of each key, and the codes of the three values. Each key and each value
+// is noted once, in a wordbook of its own, in the order of first use.
+use signal::SignalAt;
+use signal::is_wild;
+use signal::put_key;
+use text::put_part;
+use wordbook::Noted;
+use wordbook::note;
+ghost use mathlib.Core.Path.{_≡_};
+ghost use Prim.Native.Nat.{_+_, _-_, _*_, _/_, _≤_};
+ghost use lib.ListN.{length, drop};
+ghost use lib.Seq.{slice};
+ghost use Rattle.text.specs.Read.{Part};
+ghost use Rattle.utf8.specs.Alone.{textLimit};
+ghost use Rattle.sheet.specs.Places.{clauseNumbers, signalAt};
+ghost use Rattle.codes.specs.Read.{clauseIn, valueIn, RowOk, RowsOk, Room, Open, KeyAdded, ValueAdded, KeysNoted, ValuesCoded};
+
+// How many numbers a clause has in cs: its kind, where its signal starts, the places behind the signal's parts k1, k2, k3, v1, v2, v3
+// counted from there, and the score.
+const CLAUSE_NUMBERS: usize = 9;
+
+// The code of the wildcard, which is no value.
+const WILD_CODE: usize = 65535;
+
+// The signal of the clause whose numbers start at `at`.
+fn signal_at(cs: &[usize], at: usize) -> SignalAt
+    requires { ⌜ at + clauseNumbers ≤ length (now cs) ⌝ }
+    ensures { λ r. ⌜ r ≡ signalAt (drop at (now (cs .entry))) ⌝ }
+{
+    SignalAt {
+        k1: cs[at + 2],
+        k2: cs[at + 3],
+        k3: cs[at + 4],
+        v1: cs[at + 5],
+        v2: cs[at + 6],
+        v3: cs[at + 7],
+        score: cs[at + 8] as u64,
+    }
+}
+
+// Writes the key of clause i behind the last of n words, and notes it.
+fn note_key(
+    s: &[u8],
+    cs: &[usize],
+    i: usize,
+    texts: &mut [u8],
+    starts: &mut [usize],
+    orders: &mut [usize],
+    ranks: &mut [usize],
+    n: usize,
+) -> Noted
+    requires { ⌜ RowOk (now s) (now cs) i ⌝ }
+    requires { ⌜ Open (now texts) (now starts) (now orders) (now ranks) n (length (now s)) ⌝ }
+    ensures { λ r. ⌜ KeyAdded (clauseIn (now (s .entry)) (now (cs .entry)) i .signal .key) (now (texts .entry)) (now (starts .entry)) (now (orders .entry)) (now (ranks .entry)) (now (texts .exit)) (now (starts .exit)) (now (orders .exit)) (now (ranks .exit)) n r ⌝ }
+{
+    let at = CLAUSE_NUMBERS * i;
+    let from = cs[at + 1];
+    let end = starts[n];
+    let to = put_key(texts, end, &s[from..], signal_at(cs, at));
+    note(texts, starts, orders, ranks, n, to)
+}
+
+// Notes the keys of m clauses, writes their numbers, and answers how many keys there are.
+pub fn note_keys(
+    s: &[u8],
+    cs: &[usize],
+    m: usize,
+    texts: &mut [u8],
+    starts: &mut [usize],
+    orders: &mut [usize],
+    ranks: &mut [usize],
+    numbers: &mut [usize],
+) -> usize
+    requires { ⌜ RowsOk (now s) (now cs) m ⌝ }
+    requires { ⌜ length (now s) ≤ textLimit ⌝ }
+    requires { ⌜ Room (now texts) (now starts) (now orders) (now ranks) (now numbers) (2 * textLimit) m ⌝ }
+    ensures { λ r. ⌜ KeysNoted (now (s .entry)) (now (cs .entry)) m (now (texts .entry)) (now (starts .entry)) (now (orders .entry)) (now (ranks .entry)) (now (numbers .entry)) (now (texts .exit)) (now (starts .exit)) (now (orders .exit)) (now (ranks .exit)) (now (numbers .exit)) r ⌝ }
+{
+    let mut n: usize = 0;
+    let mut i: usize = 0;
+    while i < m {
+        let k = note_key(s, cs, i, texts, starts, orders, ranks, n);
+        numbers[i] = k.number;
+        n = k.count;
+        i += 1;
+    }
+    n
+}
+
+// Writes the value in from..to of s behind the last of n words, and notes it; answered is its code, one more than its number. The
+// wildcard has a code of its own and is not noted.
+fn note_value(
+    s: &[u8],
+    from: usize,
+    to: usize,
+    texts: &mut [u8],
+    starts: &mut [usize],
+    orders: &mut [usize],
+    ranks: &mut [usize],
+    n: usize,
+) -> Noted
+    requires { ⌜ Part (now s) from to ⌝ }
+    requires { ⌜ Open (now texts) (now starts) (now orders) (now ranks) n (to - from) ⌝ }
+    ensures { λ r. ⌜ ValueAdded (slice from to (now (s .entry))) (now (texts .entry)) (now (starts .entry)) (now (orders .entry)) (now (ranks .entry)) (now (texts .exit)) (now (starts .exit)) (now (orders .exit)) (now (ranks .exit)) n r ⌝ }
+{
+    if is_wild(s, from, to) {
+        return Noted {
+            number: WILD_CODE,
+            count: n,
+        };
+    }
+    let end = starts[n];
+    let behind = put_part(texts, end, s, from, to);
+    let r = note(texts, starts, orders, ranks, n, behind);
+    Noted {
+        number: r.number + 1,
+        count: r.count,
+    }
+}
+
+// Notes value j: the first, second or third of clause j / 3. It stands between two of the clause's places, one next to the other.
+fn note_value_at(
+    s: &[u8],
+    cs: &[usize],
+    j: usize,
+    texts: &mut [u8],
+    starts: &mut [usize],
+    orders: &mut [usize],
+    ranks: &mut [usize],
+    n: usize,
+) -> Noted
+    requires { ⌜ RowOk (now s) (now cs) (j / 3) ⌝ }
+    requires { ⌜ Open (now texts) (now starts) (now orders) (now ranks) n (length (valueIn (now s) (now cs) j)) ⌝ }
+    ensures { λ r. ⌜ ValueAdded (valueIn (now (s .entry)) (now (cs .entry)) j) (now (texts .entry)) (now (starts .entry)) (now (orders .entry)) (now (ranks .entry)) (now (texts .exit)) (now (starts .exit)) (now (orders .exit)) (now (ranks .exit)) n r ⌝ }
+{
+    let at = CLAUSE_NUMBERS * (j / 3);
+    let from = cs[at + 1];
+    let before = at + 4 + j % 3;
+    let a = from + cs[before] + 1;
+    let b = from + cs[before + 1];
+    note_value(s, a, b, texts, starts, orders, ranks, n)
+}
+
+// Notes the values of m clauses, three each, writes their codes, and answers how many values there are.
+pub fn note_values(
+    s: &[u8],
+    cs: &[usize],
+    m: usize,
+    texts: &mut [u8],
+    starts: &mut [usize],
+    orders: &mut [usize],
+    ranks: &mut [usize],
+    codes: &mut [usize],
+) -> usize
+    requires { ⌜ RowsOk (now s) (now cs) m ⌝ }
+    requires { ⌜ Room (now texts) (now starts) (now orders) (now ranks) (now codes) textLimit (3 * m) ⌝ }
+    ensures { λ r. ⌜ ValuesCoded (now (s .entry)) (now (cs .entry)) m (now (texts .entry)) (now (starts .entry)) (now (orders .entry)) (now (ranks .entry)) (now (codes .entry)) (now (texts .exit)) (now (starts .exit)) (now (orders .exit)) (now (ranks .exit)) (now (codes .exit)) r ⌝ }
+{
+    let mut n: usize = 0;
+    let mut j: usize = 0;
+    while j < 3 * m {
+        let v = note_value_at(s, cs, j, texts, starts, orders, ranks, n);
+        codes[j] = v.number;
+        n = v.count;
+        j += 1;
+    }
+    n
+}
