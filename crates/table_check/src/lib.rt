@@ -1,4 +1,11 @@
 // Whether bytes are a table.
+use sheet::CLAUSE_LIMIT;
+use sheet::EVENT_LIMIT;
+use sheet::INTERVAL_LIMIT;
+use sheet::NAME_LIMIT;
+use sheet::STOP_LIMIT;
+use sheet::T0_LIMIT;
+use sheet::TIMEOUT_LIMIT;
 use signal::SCORE_LIMIT;
 use table::CLAUSE_LENGTH;
 use table::ClauseRow;
@@ -33,21 +40,6 @@ ghost use Rattle.table.specs.Table.{settingsOk, countsOk, placesOk, headOk, eve
 ghost use Rattle.table.specs.Read.{Headed};
 ghost use Rattle.table_check.specs.Check.{Few, eventRows, clauseRows, wordRows, eventStep, useNext, codeNext, valuesNext, Coded, clauseStep, wordAt, textsOf, ordersOf, wordAsked, laid, rankAsked, ranksFrom, Inside, titlesOk, rowsOk, vocabularyOk};
 
-// The limits of a sheet.
-pub const EVENT_LIMIT: u32 = 32;
-
-pub const CLAUSE_LIMIT: u32 = 256;
-
-pub const NAME_LIMIT: u32 = 256;
-
-pub const INTERVAL_LIMIT: u32 = 4102444800;
-
-pub const TIMEOUT_LIMIT: u32 = 2147483647;
-
-pub const STOP_LIMIT: u32 = 1000000;
-
-pub const T0_LIMIT: u32 = 1;
-
 // The most parts of a key and of a value.
 pub const KEY_PARTS: usize = 3;
 
@@ -72,38 +64,38 @@ enum Step {
 fn settings_ok(s: Settings) -> bool
     ensures { λ r. ⌜ r ≡ settingsOk s ⌝ }
 {
-    if INTERVAL_LIMIT < s.interval {
+    if INTERVAL_LIMIT < s.interval as u64 {
         return false;
     }
-    if TIMEOUT_LIMIT < s.timeout {
+    if TIMEOUT_LIMIT < s.timeout as u64 {
         return false;
     }
-    if STOP_LIMIT < s.stop {
+    if STOP_LIMIT < s.stop as u64 {
         return false;
     }
-    s.t0 <= T0_LIMIT
+    s.t0 as u64 <= T0_LIMIT
 }
 
 // Whether the counts are in range.
 fn counts_ok(c: Counts) -> bool
     ensures { λ r. ⌜ r ≡ countsOk c ⌝ }
 {
-    if EVENT_LIMIT < c.events {
+    if EVENT_LIMIT < c.events as usize {
         return false;
     }
-    if CLAUSE_LIMIT < c.clauses {
+    if CLAUSE_LIMIT < c.clauses as usize {
         return false;
     }
-    if CLAUSE_LIMIT < c.keys {
+    if CLAUSE_LIMIT < c.keys as usize {
         return false;
     }
-    if 3 * CLAUSE_LIMIT < c.values {
+    if 3 * CLAUSE_LIMIT < c.values as usize {
         return false;
     }
-    if NAME_LIMIT < c.name {
+    if NAME_LIMIT < c.name as usize {
         return false;
     }
-    c.symbol <= NAME_LIMIT
+    c.symbol as usize <= NAME_LIMIT
 }
 
 // Whether a and n bytes more end at b.
@@ -177,7 +169,7 @@ fn event_ok(names: &[u8], e: EventRow) -> bool
     if 6 < e.operate {
         return false;
     }
-    if NAME_LIMIT < e.len as u32 {
+    if NAME_LIMIT < e.len as usize {
         return false;
     }
     let at = e.at as usize;
@@ -208,7 +200,7 @@ fn event_step(names: &[u8], e: EventRow, f: usize, g: usize) -> Step
 }
 
 // Whether n events are right, with names and clauses that follow each other.
-pub fn events_ok(rows: &[u8], names: &[u8], n: usize, clauses: usize) -> bool
+fn events_ok(rows: &[u8], names: &[u8], n: usize, clauses: usize) -> bool
     requires { ⌜ eventLength * n ≤ length (now rows) ⌝ }
     ensures { λ r. ⌜ r ≡ eventsOk (now (names .entry)) clauses (eventRows n (now (rows .entry))) ⌝ }
 {
@@ -325,7 +317,7 @@ fn clause_step(c: ClauseRow, keys: usize, values: usize, a: usize, b: usize) -> 
 }
 
 // Whether n clauses are right, and use keys and values in order of first use, all of them.
-pub fn clauses_ok(rows: &[u8], n: usize, keys: usize, values: usize) -> bool
+fn clauses_ok(rows: &[u8], n: usize, keys: usize, values: usize) -> bool
     requires { ⌜ clauseLength * n ≤ length (now rows) ⌝ }
     ensures { λ r. ⌜ r ≡ clausesOk keys values (clauseRows n (now (rows .entry))) ⌝ }
 {
@@ -454,7 +446,7 @@ fn rising_ok(rows: &[u8], texts: &[u8], n: usize) -> bool
 }
 
 // Whether n words of at most limit parts are right: laid one after another in the texts, and distinct.
-pub fn words_ok(rows: &[u8], texts: &[u8], n: usize, limit: usize) -> bool
+fn words_ok(rows: &[u8], texts: &[u8], n: usize, limit: usize) -> bool
     requires { ⌜ wordLength * n ≤ length (now rows) ⌝ }
     ensures { λ r. ⌜ r ≡ wordsOk limit (now (texts .entry)) (wordRows n (now (rows .entry))) ⌝ }
 {

@@ -1,8 +1,8 @@
 // A function for each kind of question: it takes the fields behind the letter, asks the leaf, and shows the answer.
-use crate::ask;
-use crate::ask::field;
-use crate::show;
-use crate::show::next;
+use console::ask;
+use console::ask::field;
+use console::show;
+use console::show::next;
 use position_book::position_book_operate;
 use position_book::position_book_operate_name;
 use position_book::position_book_signal;

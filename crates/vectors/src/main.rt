@@ -1,9 +1,8 @@
 // Vectors for the leaves. Each line of standard input asks something of one leaf, and is written back with the answer behind ` = `.
 // Lines that begin with `#` are written back as they are. docs/MAP.md lists the kinds of question.
-mod ask;
 mod leaves;
-mod show;
 
+use console::show;
 use libc::STDIN_FILENO;
 use text::LF;
 use text::find;

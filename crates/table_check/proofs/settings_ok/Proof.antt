@@ -4,6 +4,7 @@ use Rattle.table.specs.Table.{settingsOk}
 use Rattle.text.proofs.Conditions.{_also_, none-left}
 use borrow.Author.Tests.{le-leb, lt-leb}
 use mathlib.Core.Path.{refl}
+use borrow.Author.Needs.{needs}
 use Rattle.table_check.proofs.settings_ok.Statement.{statement}
 use Rattle.table_check.proofs.settings_ok.Tie as tie
 
@@ -26,4 +27,5 @@ returns-4 c =
     decided (le-leb _ _ (d .before .before .before .before .if1 .left) also le-leb _ _ (d .before .before .if2 .left) also le-leb _ _ (d .if3 .left) also none-left) refl
 
 pub settings-ok-spec : {M : Type 1} → statement M
-settings-ok-spec = tie.close (tie.spec returns returns-2 returns-3 returns-4)
+settings-ok-spec = tie.close
+    (tie.spec (λ c. search needs) returns (λ c. search needs) returns-2 (λ c. search needs) returns-3 (λ c. search needs) returns-4)

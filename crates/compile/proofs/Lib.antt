@@ -1,0 +1,3 @@
+-- The laws of compiling.
+pub mod Compiled
+pub mod Steps

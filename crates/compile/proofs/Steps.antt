@@ -1,0 +1,88 @@
+-- What each step of compiling asks follows from the steps before it. Assumes nothing.
+use Prim.Native.Nat.{ℕ, suc, _*_, _≤_}
+use native.Mathlib.Omega.{arith}
+use mathlib.Core.List.{List}
+use mathlib.Core.Path.{_≡_, refl, sym, _∙_}
+use lib.ListN.{length, replicate, length-replicate}
+use Rattle.sheet.specs.Sheet.{eventLimit, clauseLimit}
+use Rattle.sheet.specs.Places.{clauseNumbers, eventNumbers, sheetAt, SheetAs}
+use Rattle.sheet.specs.declared.SheetAt.{SheetAt}
+use Rattle.sheet.specs.declared.SheetRead.the-variants.{Is}
+use Rattle.fine.proofs.Theorem.{sheet-fine}
+use Rattle.table.specs.Compile.{Means}
+use Rattle.layout.specs.Build.{tableOf}
+use Rattle.draft.specs.Draft.{Words, draft, Drafted}
+use Rattle.draft.proofs.Right.{draft-sized}
+use Rattle.codes.specs.Read.{RowsOk, Room, KeysNoted, ValuesCoded}
+use Rattle.codes.proofs.Sheet.{sheet-rows}
+use Rattle.writer.specs.Fits.{TableFits}
+use Rattle.writer.proofs.Asked.{table-fits}
+use Rattle.compile.specs.Steps.{SheetDone, KeysDone}
+use Rattle.compile.proofs.Compiled.{written-means, short-text}
+
+-- a sheet was read
+pub sheet-done : {s es cs : List ℕ} {a : SheetAt} → SheetAs s es cs (Is a) → length es ≡ eventNumbers * eventLimit → length cs ≡ clauseNumbers * clauseLimit
+    → SheetDone s es cs a
+sheet-done {s} {es} {cs} {a} r e c =
+    record {
+      ok = r .ok;
+      fine = sheet-fine s (sheetAt s es cs a) (sym (r .is));
+      short = short-text s (sheetAt s es cs a) (sym (r .is));
+      events-room = e;
+      clauses-room = c;
+    }
+
+pub sheet-clauses : {s es cs : List ℕ} {a : SheetAt} → SheetDone s es cs a → RowsOk s cs (a .clauses)
+sheet-clauses d = sheet-rows (d .ok) (d .fine) (omega (arith, d .clauses-room, d .ok .short))
+
+-- fresh buffers for at most n words
+pub fresh-room : (b n bytes m : ℕ) → bytes ≤ b → m ≤ n → Room (replicate b 0) (replicate (suc n) 0) (replicate n 0) (replicate n 0) (replicate n 0) bytes m
+fresh-room b n bytes m h k =
+    let texts = length-replicate {A = ℕ} b 0 in
+    let words = length-replicate {A = ℕ} n 0 in
+    let starts = length-replicate {A = ℕ} (suc n) 0 in
+    record {
+      first = refl;
+      texts-room = omega (arith, texts);
+      starts-room = omega (arith, starts);
+      orders-room = omega (arith, words);
+      ranks-room = omega (arith, words);
+      numbers-room = omega (arith, words);
+    }
+
+abbrev book : List ℕ → List ℕ → List ℕ → List ℕ → ℕ → Words
+book texts starts orders ranks n = record { texts = texts; starts = starts; orders = orders; ranks = ranks; count = n }
+
+module _ {s es cs : List ℕ} {a : SheetAt} {texts starts orders ranks numbers texts₁ starts₁ orders₁ ranks₁ numbers₁ : List ℕ} {r : ℕ} where
+  -- its keys are noted
+  pub keys-done : SheetDone s es cs a → KeysNoted s cs (a .clauses) texts starts orders ranks numbers texts₁ starts₁ orders₁ ranks₁ numbers₁ r
+      → length numbers ≡ clauseLimit → KeysDone s es cs a numbers₁ (book texts₁ starts₁ orders₁ ranks₁ r)
+  keys-done d k h =
+      record { sheet = d; book = k .book; keys-are = k .words; numbers-are = k .are; numbers-room = k .numbers-length ∙ h }
+
+  -- and its values: the table can be written
+  module _ {keys : List ℕ} {ks : Words} (k : KeysDone s es cs a keys ks)
+      (v : ValuesCoded s cs (a .clauses) texts starts orders ranks numbers texts₁ starts₁ orders₁ ranks₁ numbers₁ r) where
+    drafted : Drafted s es cs a keys numbers₁ ks (book texts₁ starts₁ orders₁ ranks₁ r)
+    drafted =
+        record {
+          sheet = k .sheet .ok;
+          keys = k .book;
+          keys-are = k .keys-are;
+          numbers-are = k .numbers-are;
+          values = v .book;
+          values-are = v .words;
+          codes-are = v .are;
+        }
+
+    pub values-fit : length numbers ≡ 3 * clauseLimit → TableFits s es cs a keys numbers₁ ks (book texts₁ starts₁ orders₁ ranks₁ r)
+    values-fit h =
+        let ok = k .sheet .ok in
+        table-fits keys numbers₁ ks (book texts₁ starts₁ orders₁ ranks₁ r) ok (k .book) (v .book) (draft-sized drafted (k .sheet .fine))
+        (omega (arith, k .sheet .events-room, ok .few))
+        (omega (arith, k .sheet .clauses-room, ok .short))
+        (omega (arith, k .numbers-room, ok .short))
+        (omega (arith, v .numbers-length, h, ok .short))
+
+    pub values-mean : {after : List ℕ} → after ≡ tableOf (draft s es cs a keys numbers₁ ks (book texts₁ starts₁ orders₁ ranks₁ r)) → Means after (sheetAt s es cs a)
+    values-mean e = written-means drafted (k .sheet .fine) e

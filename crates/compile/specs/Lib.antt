@@ -1,0 +1,3 @@
+-- The definitions of compiling's steps and answers.
+pub mod Outcome
+pub mod Steps

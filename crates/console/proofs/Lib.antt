@@ -1,0 +1,2 @@
+-- The proofs of `console`.
+pub mod Laws

@@ -1,0 +1,100 @@
+// Tables: runs a script of sheets, tables and signals. It keeps a text that lines build and a table of 32,768 bytes, zeros at first.
+// Each line of standard input is written back, with ` = ` and the answer where it asks something.
+//
+//   +TEXT          adds a line to the text               .TEXT         adds bytes to it
+//   *N|TEXT        adds N lines, `#` being the line's number from 0
+//   %N|BYTES       adds N times bytes (in hexadecimal, as all BYTES here)
+//   C              compiles the text into the table: the number, and a fingerprint of the table's bytes
+//   M              takes the text as a bar's signals: 9, their refusal, or 0 and the event that is chosen
+//   P|at|BYTES     puts bytes into the table             H|from|to     the table's bytes
+//   T              whether the bytes are a table: 0 or 9
+//   F|mask|from|to changes each byte in turn: the places where the bytes still are a table
+//   #              a comment
+//
+// `C` and `M` empty the text.
+mod asked;
+mod build;
+mod raw;
+
+use console::show;
+use libc::STDIN_FILENO;
+use text::LF;
+use text::find;
+
+// Whether a line of that letter asks something.
+fn asks(tag: u8) -> bool {
+    match tag {
+        b'C' | b'F' | b'H' | b'M' | b'T' => true,
+        _ => false,
+    }
+}
+
+// Runs a line that leaves the text as it is.
+fn inspect(tag: u8, s: &[u8], table: &mut [u8]) {
+    match tag {
+        b'F' => asked::changed(s, table),
+        b'H' => raw::dump(s, table),
+        b'P' => raw::change(s, table),
+        b'T' => asked::accepted(table),
+        _ => return,
+    }
+}
+
+// Runs a line, and answers how many bytes of the text are taken then.
+fn run(s: &[u8], text: &mut [u8], used: usize, table: &mut [u8]) -> usize {
+    if s.len() == 0 {
+        return used;
+    }
+    let tag = s[0];
+    let rest = &s[1..];
+    if asks(tag) {
+        show::text(b" = ");
+    }
+    match tag {
+        b'+' => build::line(rest, text, used),
+        b'.' => build::bytes(rest, text, used),
+        b'*' => build::lines(rest, text, used),
+        b'%' => build::copies(rest, text, used),
+        b'C' => {
+            asked::compiled(build::taken(text, used), table);
+            0
+        }
+        b'M' => {
+            asked::matched(build::taken(text, used), table);
+            0
+        }
+        _ => {
+            inspect(tag, s, table);
+            used
+        }
+    }
+}
+
+// Runs a line and writes it back.
+fn line(s: &[u8], text: &mut [u8], used: usize, table: &mut [u8]) -> usize {
+    show::text(s);
+    let n = run(s, text, used, table);
+    show::text(b"\n");
+    n
+}
+
+// Runs each line of s.
+fn lines(s: &[u8], text: &mut [u8], table: &mut [u8]) {
+    let n = s.len();
+    let mut used = 0;
+    let mut at = 0;
+    while at < n {
+        let end = find(s, at, n, LF);
+        used = line(&s[at..end], text, used, table);
+        at = end + 1;
+    }
+}
+
+// Reads at most 65,536 bytes. A text has room for 20,000.
+fn main() {
+    let mut space = io::large_buffer();
+    let n = io::read_full(STDIN_FILENO, &mut space);
+    let mut text = [0u8; 20000];
+    let mut table = [0u8; 32768];
+    lines(&space[..n], &mut text, &mut table);
+}

@@ -1,2 +1,0 @@
--- The proofs of `vectors`.
-pub mod Laws

@@ -1,0 +1,7 @@
+-- The laws of writing a table.
+mod Joined
+mod Rows
+mod Names
+mod Zeros
+mod Table
+pub mod Asked

@@ -1,0 +1,2 @@
+-- What writing a table asks and answers.
+pub mod Fits
