@@ -1,8 +1,10 @@
 // The numbers that a sheet's clauses have in a table: the number of each key, and the codes of the three values. Each key and each value
 // is noted once, in a wordbook of its own, in the order of first use.
+use sheet::CLAUSE_NUMBERS;
 use signal::SignalAt;
 use signal::is_wild;
 use signal::put_key;
+use table::WILD_CODE;
 use text::put_part;
 use wordbook::Noted;
 use wordbook::note;
@@ -14,13 +16,6 @@ ghost use Rattle.text.specs.Read.{Part};
 ghost use Rattle.utf8.specs.Alone.{textLimit};
 ghost use Rattle.sheet.specs.Places.{clauseNumbers, signalAt};
 ghost use Rattle.codes.specs.Read.{clauseIn, valueIn, RowOk, RowsOk, Room, Open, KeyAdded, ValueAdded, KeysNoted, ValuesCoded};
-
-// How many numbers a clause has in cs: its kind, where its signal starts, the places behind the signal's parts k1, k2, k3, v1, v2, v3
-// counted from there, and the score.
-const CLAUSE_NUMBERS: usize = 9;
-
-// The code of the wildcard, which is no value.
-const WILD_CODE: usize = 65535;
 
 // The signal of the clause whose numbers start at `at`.
 fn signal_at(cs: &[usize], at: usize) -> SignalAt

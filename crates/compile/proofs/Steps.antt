@@ -78,7 +78,7 @@ module _ {s es cs : List ℕ} {a : SheetAt} {texts starts orders ranks numbers t
     pub values-fit : length numbers ≡ 3 * clauseLimit → TableFits s es cs a keys numbers₁ ks (book texts₁ starts₁ orders₁ ranks₁ r)
     values-fit h =
         let ok = k .sheet .ok in
-        table-fits keys numbers₁ ks (book texts₁ starts₁ orders₁ ranks₁ r) ok (k .book) (v .book) (draft-sized drafted (k .sheet .fine))
+        table-fits drafted (draft-sized drafted (k .sheet .fine))
         (omega (arith, k .sheet .events-room, ok .few))
         (omega (arith, k .sheet .clauses-room, ok .short))
         (omega (arith, k .numbers-room, ok .short))

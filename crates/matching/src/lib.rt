@@ -9,6 +9,7 @@ use signal::ValueRead;
 use signal::read_value;
 use table::ClauseRow;
 use table::EventRow;
+use table::WILD_CODE;
 use table::clause_at;
 use table::event_at;
 use table::read_counts;
@@ -37,9 +38,6 @@ pub enum Match {
     Event(usize),
     Nothing,
 }
-
-// The code of the wildcard.
-const WILD: u16 = 65535;
 
 // The bytes from..to of a table.
 fn section(t: &[u8], from: u32, to: u32) -> &[u8]
@@ -100,7 +98,7 @@ fn agrees(t: &[u8], code: u16, v: &[u8], from: usize, to: usize) -> bool
     requires { ⌜ Part (now v) from to ⌝ }
     ensures { λ r. ⌜ r ≡ Match·agrees (textAt (valuesOf (now (t .entry))) code) (slice from to (now (v .entry))) ⌝ }
 {
-    if code == WILD {
+    if code as usize == WILD_CODE {
         return true;
     }
     let own = value_text(t, code as usize - 1);

@@ -40,6 +40,12 @@ pub const STOP_LIMIT: u64 = 1_000_000;
 
 pub const T0_LIMIT: u64 = 1;
 
+// How many numbers are kept of an event: 0 opening or 1 exit, the operate, where the name starts, its length, the first clause, how many clauses.
+pub const EVENT_NUMBERS: usize = 6;
+
+// And of a clause: 0 all, 1 any or 2 not, where the signal starts, the places behind its parts k1, k2, k3, v1, v2, v3 counted from there, the score.
+pub const CLAUSE_NUMBERS: usize = 9;
+
 // A sheet that was read: the places behind the name and behind the symbol, the settings, and how many events and clauses there are.
 pub struct SheetAt {
     pub name: usize,
@@ -159,7 +165,7 @@ fn put_event(
     requires { ⌜ 6 * n + 6 ≤ length (now events) ⌝ }
     ensures { λ _. ⌜ now (events .exit) ≡ patch (now (events .entry)) (6 * n) (kind ∷ operate ∷ from ∷ len ∷ first ∷ 0 ∷ []) ⌝ }
 {
-    let at = 6 * n;
+    let at = EVENT_NUMBERS * n;
     put_three(events, at, kind, operate, from);
     put_three(events, at + 3, len, first, 0);
 }
@@ -169,7 +175,7 @@ fn put_clause(clauses: &mut [usize], n: usize, kind: usize, from: usize, g: Sign
     requires { ⌜ 9 * n + 9 ≤ length (now clauses) ⌝ }
     ensures { λ _. ⌜ now (clauses .exit) ≡ patch (now (clauses .entry)) (9 * n) (kind ∷ from ∷ g .k1 ∷ g .k2 ∷ g .k3 ∷ g .v1 ∷ g .v2 ∷ g .v3 ∷ g .score ∷ []) ⌝ }
 {
-    let at = 9 * n;
+    let at = CLAUSE_NUMBERS * n;
     let k1 = g.k1;
     let k2 = g.k2;
     let k3 = g.k3;
@@ -203,7 +209,7 @@ fn in_place(events: &[usize], n: usize, kind: usize) -> bool
     if n == 0 {
         return true;
     }
-    events[6 * (n - 1)] != 1
+    events[EVENT_NUMBERS * (n - 1)] != 1
 }
 
 // An event line of a kind, 0 opening or 1 exit, whose fields behind the tag are from..to.
@@ -250,7 +256,7 @@ fn more_clauses(events: &mut [usize], i: usize)
     requires { ⌜ (6 * i + 6 ≤ length (now events)) × (eventNumber (now events) i 5 ≤ 256) ⌝ }
     ensures { λ _. ⌜ now (events .exit) ≡ patch (now (events .entry)) (6 * i + 5) ((eventNumber (now (events .entry)) i 5 + 1) ∷ []) ⌝ }
 {
-    let at = 6 * i + 5;
+    let at = EVENT_NUMBERS * i + 5;
     events[at] = events[at] + 1;
 }
 

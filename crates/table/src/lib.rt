@@ -19,6 +19,9 @@ pub const CLAUSE_LENGTH: usize = 12;
 
 pub const WORD_LENGTH: usize = 8;
 
+// The code of the wildcard among a clause's values: -1 in 16 bits.
+pub const WILD_CODE: usize = 65535;
+
 // The settings of a position.
 pub struct Settings {
     pub interval: u32,

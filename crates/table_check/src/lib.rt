@@ -16,6 +16,7 @@ use table::HEAD_LENGTH;
 use table::Places;
 use table::Settings;
 use table::TABLE_LENGTH;
+use table::WILD_CODE;
 use table::WORD_LENGTH;
 use table::WordRow;
 use table::clause_at;
@@ -44,9 +45,6 @@ ghost use Rattle.table_check.specs.Check.{Few, eventRows, clauseRows, wo
 pub const KEY_PARTS: usize = 3;
 
 pub const VALUE_PARTS: usize = 1;
-
-// The code of the wildcard.
-pub const WILD_CODE: usize = 65535;
 
 // How many numbers are used after one use more; or that use skipped one.
 enum Used {

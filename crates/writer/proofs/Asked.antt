@@ -1,4 +1,4 @@
--- What writing a table asks follows from what is known of a sheet that was read and its wordbooks, where the draft is within the limits. Assumes nothing.
+-- What writing a table asks is so of a draft that is known to be right and within the limits. Assumes nothing.
 use Prim.Native.Nat.{ℕ, _*_, _<_, _≤_}
 use native.Mathlib.Omega.{arith}
 use mathlib.Core.List.{List}
@@ -6,14 +6,14 @@ use mathlib.Core.Path.{subst}
 use lib.ListN.{length}
 use Rattle.list.specs.Numbered.{numbered}
 use Rattle.list.proofs.Laws.{numbered-length, numbered-at}
-use Rattle.sheet.specs.Places.{clauseNumbers, eventNumbers, SettingsOk, SheetOk}
+use Rattle.sheet.specs.Places.{clauseNumbers, eventNumbers, SettingsOk}
 use Rattle.sheet.specs.declared.SheetAt.{SheetAt}
 use Rattle.table.specs.declared.Places.{Places}
 use Rattle.layout.proofs.Sized.{EventFits, ClauseFits, WordFits, AllAt, Sized}
 use Rattle.layout.proofs.Head.{SettingsFit}
 use Rattle.layout.proofs.Table.{used-fits}
 use Rattle.wordbook.specs.Wordbook.{Book}
-use Rattle.draft.specs.Draft.{Words, wordRow, clauseRow, eventRow, draft, BookOf}
+use Rattle.draft.specs.Draft.{Words, wordRow, clauseRow, eventRow, draft, Drafted}
 use Rattle.writer.specs.Fits.{settingsOf, WordsFit, TextsFit, wordsLength, TableFits}
 use Rattle.writer.proofs.Table.{places-are}
 
@@ -34,18 +34,20 @@ words-fit {texts} {starts} {orders} {ranks} {n} b f = record {
   each = each WordFits (wordRow starts orders ranks) n f;
 }
 
-module _ {s es cs : List ℕ} {a : SheetAt} (numbers codes : List ℕ) (ks vs : Words) (o : SheetOk s es cs a) (k : BookOf ks) (v : BookOf vs) where
+module _ {s es cs : List ℕ} {a : SheetAt} {numbers codes : List ℕ} {ks vs : Words} (d : Drafted s es cs a numbers codes ks vs) where
   texts-fit : eventNumbers * a .events ≤ length es → TextsFit s es a (ks .texts) (wordsLength ks) (vs .texts) (wordsLength vs)
-  texts-fit h = record {
-    name = o .name;
-    symbol = o .symbol;
-    within = omega (arith, o .within);
-    names = record { room = h; each = λ i g. o .events i g .name };
-    keys = k .within;
-    values = v .within;
-  }
+  texts-fit h =
+      let k = d .sheet in
+      record {
+        name = k .name;
+        symbol = k .symbol;
+        within = omega (arith, k .within);
+        names = record { room = h; each = λ i g. k .events i g .name };
+        keys = d .keys .within;
+        values = d .values .within;
+      }
 
-  -- with room for the numbers in the buffers
+  -- with room for the numbers in their buffers
   pub table-fits : Sized (draft s es cs a numbers codes ks vs) → eventNumbers * a .events ≤ length es → clauseNumbers * a .clauses ≤ length cs
       → a .clauses ≤ length numbers → 3 * a .clauses ≤ length codes → TableFits s es cs a numbers codes ks vs
   unfolding draft
@@ -53,11 +55,11 @@ module _ {s es cs : List ℕ} {a : SheetAt} (numbers codes : List ℕ) (ks vs : 
       let t = texts-fit he in
       let used = subst (λ (q : Places). q .used ≤ 28108) (places-are s es cs a numbers codes ks vs t) (used-fits z) in
       record {
-        settings = settings-fit (o .settings);
+        settings = settings-fit (d .sheet .settings);
         events = record { room = he; each = each EventFits (eventRow es) (a .events) (z .eventRows) };
         clauses = record { room = hc; keys = hn; values = hv; each = each ClauseFits (clauseRow cs numbers codes) (a .clauses) (z .clauseRows) };
-        keys = words-fit k (z .keyRows);
-        values = words-fit v (z .valueRows);
+        keys = words-fit (d .keys) (z .keyRows);
+        values = words-fit (d .values) (z .valueRows);
         texts = t;
         room = omega (arith, used);
       }

@@ -5,3 +5,5 @@ mod Names
 mod Zeros
 mod Table
 pub mod Asked
+mod Examples
+pub mod Opened

@@ -1,6 +1,5 @@
 -- The loops that add up and write the names of events. Assumes nothing.
-use Prim.Native.Nat.{ℕ, zero, suc, _+_, _-_, _*_, _<_, _≤_}
-use native.Mathlib.Decide.{decLe}
+use Prim.Native.Nat.{ℕ, suc, _+_, _-_, _*_, _<_, _≤_}
 use native.Mathlib.Numerals.{add-one}
 use native.Mathlib.Omega.{arith}
 use mathlib.Core.Path.{_≡_, refl, sym, _∙_, subst}
@@ -14,6 +13,7 @@ use Rattle.text.proofs.Put.{put-none, put-put}
 use Rattle.sheet.specs.Places.{eventNumbers}
 use Rattle.table.specs.Layout.{tableLength}
 use Rattle.draft.specs.Draft.{namesAt, namesLength}
+use Rattle.draft.proofs.Rows.{sum-end}
 use Rattle.writer.specs.Fits.{PutOf, NamesFit}
 use Rattle.writer.proofs.Rows.{from, lent, lent-room}
 
@@ -21,14 +21,9 @@ names-next : (es : List ℕ) (i : ℕ) → namesLength es (suc i) ≡ namesLengt
 unfolding namesLength
 names-next es i = refl
 
-names-rise : (es : List ℕ) (i n : ℕ) → i ≤ n → namesLength es i ≤ namesLength es n
-names-rise es i zero h =
-    let e : i ≡ 0 = omega arith in
-    rw e (omega arith)
-names-rise es i (suc n) h = elim (decLe i n) [
-  | yes k ↦ omega (arith, names-rise es i n k, names-next es n)
-  | no k ↦ let e : i ≡ suc n = omega arith in rw e (omega arith)
-]
+-- one more is not past the end
+names-end : (es : List ℕ) (n i : ℕ) → i < n → namesLength es i + getD (drop (eventNumbers * i) es) 3 0 ≤ namesLength es n
+names-end es n = sum-end (namesLength es) (λ (i : ℕ). getD (drop (eventNumbers * i) es) 3 0) n (λ i h. names-next es i)
 
 -- the sum of the first i of n
 pub record Summing (es : List ℕ) (n sum i : ℕ) : Type 0 where
@@ -42,14 +37,14 @@ unfolding namesLength
 summing-first es n h k = record { le = omega arith; room = h; high = k; is = refl }
 
 module _ {es : List ℕ} {n sum i : ℕ} (x : Summing es n sum i) (h : i < n) where
-  one-more : namesLength es (i + 1) ≡ sum + getD es (eventNumbers * i + 3) 0
-  one-more = rw (add-one, names-next es i, x .is, getD-drop (eventNumbers * i) es 3 0)
+  here : getD (drop (eventNumbers * i) es) 3 0 ≡ getD es (eventNumbers * i + 3) 0
+  here = getD-drop (eventNumbers * i) es 3 0
 
   pub summing-low : sum + getD es (eventNumbers * i + 3) 0 ≤ tableLength
-  summing-low = omega (arith, one-more, names-rise es (i + 1) n (omega arith), x .high)
+  summing-low = omega (arith, here, x .is, names-end es n i h, x .high)
 
   pub summing-more : Summing es n (sum + getD es (eventNumbers * i + 3) 0) (i + 1)
-  summing-more = record { le = omega arith; room = x .room; high = x .high; is = sym one-more }
+  summing-more = rw add-one (record { le = h; room = x .room; high = x .high; is = omega (arith, here, x .is, names-next es i) })
 
 pub summing-last : {es : List ℕ} {n sum i : ℕ} → Summing es n sum i → n ≤ i → sum ≡ namesLength es n
 summing-last {es} {n} {sum} {i} x h =
@@ -87,7 +82,7 @@ module _ {s es : List ℕ} {n : ℕ} {l : List ℕ} {at : ℕ} {m : List ℕ} {i
   naming-within h = rw (lent (eventNumbers * i) es) (x .fit .each i h)
 
   pub naming-room : i < n → p + getD named 3 0 ≤ length m
-  naming-room h = rw (lent (eventNumbers * i) es) (omega (arith, x .here, x .put .kept, x .room, names-next es i, names-rise es (suc i) n h))
+  naming-room h = rw (lent (eventNumbers * i) es) (omega (arith, x .here, x .put .kept, x .room, names-end es n i h))
 
   pub naming-more : {z : List ℕ} {q : ℕ} → i < n → PutOf (getD named 3 0) m z p (part s (getD named 2 0) (getD named 3 0)) q → Naming s es n l at z (i + 1) q
   unfolding namesAt

@@ -1,6 +1,8 @@
 // Writes a compiled table: the header, the rows, the texts, and zeros after.
 //
-// Each function writes to dst from `at` on, and answers the place behind what it wrote.
+// A function that puts something writes it to dst from `at` on, and answers the place behind it.
+use sheet::CLAUSE_NUMBERS;
+use sheet::EVENT_NUMBERS;
 use sheet::SheetAt;
 use table::ClauseRow;
 use table::Counts;
@@ -24,21 +26,17 @@ ghost use Rattle.layout.proofs.Head.{SettingsFit};
 ghost use Rattle.draft.specs.Draft.{wordRow, wordRows, clauseRows, eventRows, namesAt, namesLength, draft};
 ghost use Rattle.writer.specs.Fits.{PutOf, eventOf, clauseOf, EventsFit, NamesFit, ClausesFit, WordsFit, WordFit, settingsOf, countsOf, placesOf, HeadFits, TextsFit, TableFits};
 
-// How many bytes the header and each row have.
-const HEAD_LENGTH: u32 = 76;
+// How many bytes the header and each row have, as the header counts.
+const HEAD_LENGTH: u32 = table::HEAD_LENGTH as u32;
 
-const EVENT_LENGTH: u32 = 12;
+const EVENT_LENGTH: u32 = table::EVENT_LENGTH as u32;
 
-const CLAUSE_LENGTH: u32 = 12;
+const CLAUSE_LENGTH: u32 = table::CLAUSE_LENGTH as u32;
 
-const WORD_LENGTH: u32 = 8;
+const WORD_LENGTH: u32 = table::WORD_LENGTH as u32;
 
-// How many numbers are kept of an event and of a clause, and how many of them are a clause's values.
-const EVENT_NUMBERS: usize = 6;
-
-const CLAUSE_NUMBERS: usize = 9;
-
-const VALUE_NUMBERS: usize = 3;
+// How many codes of values a clause has.
+const CLAUSE_CODES: usize = 3;
 
 // Fills dst with zeros.
 fn clear(dst: &mut [u8])
@@ -170,12 +168,12 @@ fn put_clauses(
     ensures { λ r. ⌜ PutOf (clauseLength * n) (now (dst .entry)) (now (dst .exit)) at (rowBytes clauseBytes (clauseRows (now (cs .entry)) (now (numbers .entry)) (now (codes .entry)) n)) r ⌝ }
 {
     let mut p = at;
-    let mut i = 0;
-    while i < n {
-        let b = CLAUSE_NUMBERS * i;
-        let d = VALUE_NUMBERS * i;
-        p = put_clause(dst, p, clause_row(&cs[b..], numbers[i], &codes[d..]));
-        i += 1;
+    let mut clause = 0;
+    while clause < n {
+        let b = CLAUSE_NUMBERS * clause;
+        let d = CLAUSE_CODES * clause;
+        p = put_clause(dst, p, clause_row(&cs[b..], numbers[clause], &codes[d..]));
+        clause += 1;
     }
     p
 }
@@ -395,36 +393,23 @@ fn put_head(
     put_places(dst, p, q)
 }
 
-// Writes all rows: of n events, m clauses, k keys and v values.
+// Writes the rows of the events and the clauses.
 fn put_rows(
     dst: &mut [u8],
     at: usize,
     es: &[usize],
-    n: usize,
     cs: &[usize],
+    a: SheetAt,
     numbers: &[usize],
     codes: &[usize],
-    m: usize,
-    kstarts: &[usize],
-    korders: &[usize],
-    kranks: &[usize],
-    k: usize,
-    vstarts: &[usize],
-    vorders: &[usize],
-    vranks: &[usize],
-    v: usize,
 ) -> usize
-    requires { ⌜ EventsFit (now es) n ⌝ }
-    requires { ⌜ ClausesFit (now cs) (now numbers) (now codes) m ⌝ }
-    requires { ⌜ WordsFit (now kstarts) (now korders) (now kranks) k ⌝ }
-    requires { ⌜ WordsFit (now vstarts) (now vorders) (now vranks) v ⌝ }
-    requires { ⌜ at + eventLength * n + clauseLength * m + wordLength * k + wordLength * v ≤ length (now dst) ⌝ }
-    ensures { λ r. ⌜ PutOf (eventLength * n + clauseLength * m + wordLength * k + wordLength * v) (now (dst .entry)) (now (dst .exit)) at (rowBytes eventBytes (eventRows (now (es .entry)) n) ++ rowBytes clauseBytes (clauseRows (now (cs .entry)) (now (numbers .entry)) (now (codes .entry)) m) ++ rowBytes wordBytes (wordRows (now (kstarts .entry)) (now (korders .entry)) (now (kranks .entry)) k) ++ rowBytes wordBytes (wordRows (now (vstarts .entry)) (now (vorders .entry)) (now (vranks .entry)) v)) r ⌝ }
+    requires { ⌜ EventsFit (now es) (a .events) ⌝ }
+    requires { ⌜ ClausesFit (now cs) (now numbers) (now codes) (a .clauses) ⌝ }
+    requires { ⌜ at + eventLength * a .events + clauseLength * a .clauses ≤ length (now dst) ⌝ }
+    ensures { λ r. ⌜ PutOf (eventLength * a .events + clauseLength * a .clauses) (now (dst .entry)) (now (dst .exit)) at (rowBytes eventBytes (eventRows (now (es .entry)) (a .events)) ++ rowBytes clauseBytes (clauseRows (now (cs .entry)) (now (numbers .entry)) (now (codes .entry)) (a .clauses))) r ⌝ }
 {
-    let p = put_events(dst, at, es, n);
-    let p = put_clauses(dst, p, cs, numbers, codes, m);
-    let p = put_words(dst, p, kstarts, korders, kranks, k);
-    put_words(dst, p, vstarts, vorders, vranks, v)
+    let p = put_events(dst, at, es, a.events);
+    put_clauses(dst, p, cs, numbers, codes, a.clauses)
 }
 
 // Writes all texts: the position's name and symbol, the events' names, the k bytes of the keys and the v bytes of the values.
@@ -480,23 +465,8 @@ pub fn put_table(
     let valuetexts = vstarts[v];
     let names = names_length(es, a.events);
     let p = put_head(table, 0, a, k, v, names, keytexts, valuetexts);
-    let p = put_rows(
-        table,
-        p,
-        es,
-        a.events,
-        cs,
-        numbers,
-        codes,
-        a.clauses,
-        kstarts,
-        korders,
-        kranks,
-        k,
-        vstarts,
-        vorders,
-        vranks,
-        v,
-    );
+    let p = put_rows(table, p, es, cs, a, numbers, codes);
+    let p = put_words(table, p, kstarts, korders, kranks, k);
+    let p = put_words(table, p, vstarts, vorders, vranks, v);
     put_texts(table, p, s, es, a, ktexts, keytexts, vtexts, valuetexts);
 }
