@@ -14,14 +14,10 @@ use Rattle.signal.specs.declared.SignalAt.{SignalAt}
 use Rattle.sheet.specs.Sheet.{Clause}
 use Rattle.sheet.specs.Places.{clauseNumbers, signalAt, clauseAt, ClauseOk}
 use Rattle.draft.specs.Codes.{keysIn, valuesIn}
+use Rattle.draft.proofs.Clauses.{values-length}
 use Rattle.codes.specs.Read.{clauseIn, clausesIn, valueIn, RowOk, RowsOk}
 
--- ---- how many
-
-values-length : (cs : List Clause) → length (valuesIn cs) ≡ 3 * length cs
-unfolding valuesIn
-values-length [] = refl
-values-length (c ∷ cs) = omega (arith, values-length cs)
+-- ---- values by number
 
 -- value t of clause i
 three-at : (cs : List Clause) (i t : ℕ) (d : Clause) → i < length cs → t < 3 → getD (valuesIn cs) (3 * i + t) [] ≡ getD (valuesIn (getD cs i d ∷ [])) t []

@@ -16,7 +16,7 @@ use Rattle.sheet.specs.Sheet.{Clause, clauseLimit}
 use Rattle.sheet.specs.Places.{clauseNumbers, clauseAt, ClauseOk}
 use Rattle.words.specs.Words.{wordOk, keyParts}
 use Rattle.fine.specs.Fine.{valueOk, fineClause, clauseWeight, clausesWeight}
-use Rattle.fine.proofs.Every.{every-cons, cons-every, every-append, every-three}
+use Rattle.text.proofs.Every.{every-cons, cons-every, every-append, every-three}
 use Rattle.fine.proofs.Joined.{total}
 use Rattle.fine.proofs.Facts.{clause-facts}
 use Rattle.table.specs.Table.{clauseOk, keyUses, valueUses, clausesOk, clauseOf}
@@ -29,7 +29,7 @@ use Rattle.draft.proofs.Rows.{numbered-take, numbered-every}
 
 -- ---- keys and values of clauses
 
-values-length : (cs : List Clause) → length (valuesIn cs) ≡ 3 * length cs
+pub values-length : (cs : List Clause) → length (valuesIn cs) ≡ 3 * length cs
 unfolding valuesIn
 values-length [] = refl
 values-length (c ∷ cs) = omega (arith, values-length cs)

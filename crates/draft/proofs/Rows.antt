@@ -11,7 +11,7 @@ use lib.Seq.{take-suc}
 use Rattle.list.specs.Numbered.{numbered}
 use Rattle.list.proofs.Laws.{numbered-length, numbered-at, numbered-next}
 use Rattle.text.specs.Conditions.{every}
-use Rattle.fine.proofs.Every.{cons-every, every-below, every-append}
+use Rattle.text.proofs.Every.{cons-every, every-below, every-append}
 use Rattle.table.specs.Table.{follow}
 
 -- ---- the first n of a list

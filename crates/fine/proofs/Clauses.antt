@@ -8,7 +8,7 @@ use lib.ListN.{length, length-append, getD}
 use Rattle.text.specs.Conditions.{every}
 use Rattle.sheet.specs.Sheet.{Clause, Event, Sheet, clauseCount}
 use Rattle.fine.specs.Fine.{fineClause, fineEvent, allClauses, clausesWeight, eventsWeight, namesWeight, weight, fineSheet}
-use Rattle.fine.proofs.Every.{every-cons, every-append, every-below}
+use Rattle.text.proofs.Every.{every-cons, every-append, every-below}
 use Rattle.fine.proofs.Events.{clauses-append}
 use Rattle.fine.proofs.Facts.{ClauseFacts, clause-facts, EventFacts, event-facts, sheet-facts}
 

@@ -10,7 +10,7 @@ use Rattle.sheet.specs.Sheet.{Clause, Event, clauseCount}
 use Rattle.sheet.specs.Read.{addClause}
 use Rattle.fine.specs.Fine.{fineClause, fineEvent, clauseWeight, clausesWeight, eventsWeight}
 use Rattle.fine.proofs.Facts.{event-facts, event-sure}
-use Rattle.fine.proofs.Every.{every-one, every-cons, cons-every, every-append}
+use Rattle.text.proofs.Every.{every-one, every-cons, cons-every, every-append}
 
 -- ---- one event more
 

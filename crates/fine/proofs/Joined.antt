@@ -10,7 +10,7 @@ use lib.ListN.{length, getD, drop, length-append}
 use Rattle.text.specs.Conditions.{every}
 use Rattle.text.specs.Text.{has, onto, split, joined}
 use Rattle.text.proofs.Parts.{split-some}
-use Rattle.fine.proofs.Every.{every-cons}
+use Rattle.text.proofs.Every.{every-cons}
 
 pub joined-more : (b : ℕ) (p q : List ℕ) (ps : List (List ℕ)) → joined (b ∷ []) (p ∷ q ∷ ps) ≡ p ++ b ∷ joined (b ∷ []) (q ∷ ps)
 unfolding joined

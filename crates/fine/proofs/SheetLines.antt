@@ -17,7 +17,7 @@ use Rattle.sheet.specs.Sheet.{Kind, All, Any, Not, Clause, Event, Sheet, clause
 use Rattle.sheet.specs.Read.{name, positionLine, withEvents, anyExit, eventLine, clauseLine, addClause, laterLine}
 use Rattle.words.specs.Words.{clean}
 use Rattle.fine.specs.Fine.{operateLimit, fineEvent, eventsWeight, clausesWeight, weight}
-use Rattle.fine.proofs.Every.{every-one, every-append}
+use Rattle.text.proofs.Every.{every-one, every-append}
 use Rattle.fine.proofs.Joined.{total-next, split-length}
 use Rattle.fine.proofs.Lines.{Line, field-at}
 use Rattle.fine.proofs.Given.{must-test, either-gives}

@@ -13,7 +13,7 @@ use Rattle.text.proofs.Conditions.{_also_, none-left, sure}
 use Rattle.signal.specs.Signal.{wildcard, withoutWild, keyOf}
 use Rattle.words.specs.Words.{clean, isWild, wordOk, keyParts, valueParts}
 use Rattle.fine.specs.Fine.{valueOk}
-use Rattle.fine.proofs.Every.{every-one, cons-every, every-cons}
+use Rattle.text.proofs.Every.{every-one, cons-every, every-cons}
 use Rattle.fine.proofs.Joined.{lacks, total, split-joined, joined-length}
 use Rattle.fine.proofs.Parted.{joined-every}
 use Rattle.fine.proofs.Lines.{clean-parted}

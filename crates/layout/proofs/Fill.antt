@@ -29,12 +29,6 @@ module _ (done : List ℕ) (k : ℕ) {before after : List ℕ} {at : ℕ} (e : b
   pub put-on : {x : List ℕ} {r : ℕ} → Put before after at x r → after ≡ done ++ x ++ replicate (k - length x) 0
   put-on {x} w = patch-on x (omega (arith, ap (λ (l : List ℕ). length l) e, length-append done (replicate k 0), length-replicate {A = ℕ} k 0)) (w .written)
 
-  -- a number in n bytes
-  pub number-on : (n v : ℕ) → n ≤ k → after ≡ patch before at (leBytes n v) → after ≡ done ++ leBytes n v ++ replicate (k - n) 0
-  number-on n v h w =
-      subst (λ (m : ℕ). after ≡ done ++ leBytes n v ++ replicate (k - m) 0) (length-leBytes n v)
-      (patch-on (leBytes n v) (omega (arith, length-leBytes n v)) w)
-
 -- a number in n bytes is put as a text is
 pub put-number : (n v : ℕ) {before after : List ℕ} {at : ℕ} → after ≡ patch before at (leBytes n v) → at + n ≤ length before
     → Put before after at (leBytes n v) (at + n)

@@ -11,18 +11,6 @@ use Rattle.table.specs.declared.Counts.{Counts}
 use Rattle.table.specs.declared.Places.{Places}
 use Rattle.layout.specs.Build.{settingsBytes, countsBytes, placesBytes, headBytes}
 
-pub settings-length : (s : Settings) → length (settingsBytes s) ≡ 16
-unfolding settingsBytes leBytes
-settings-length s = refl
-
-pub counts-length : (c : Counts) → length (countsBytes c) ≡ 24
-unfolding countsBytes leBytes
-counts-length c = refl
-
-pub places-length : (q : Places) → length (placesBytes q) ≡ 36
-unfolding placesBytes leBytes
-places-length q = refl
-
 pub head-length : (p : Parts) → length (headBytes p) ≡ headLength
 unfolding headBytes settingsBytes countsBytes placesBytes leBytes
 head-length p = refl

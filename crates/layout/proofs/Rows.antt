@@ -4,8 +4,8 @@ use native.Mathlib.Nat.{mul-zero, mul-suc, add-comm}
 use native.Mathlib.Omega.{arith}
 use mathlib.Core.List.{List, [], _∷_, _++_, flatMap, append-assoc, append-nil}
 use mathlib.Core.Path.{_≡_, refl, sym, ap, _∙_}
-use lib.ListN.{length, getD, take, drop, length-append}
-use lib.Seq.{take-suc, drop-append-add, ext-getD}
+use lib.ListN.{length, getD, drop, length-append}
+use lib.Seq.{drop-append-add, ext-getD}
 use Rattle.le.specs.Le.{part, leBytes}
 use Rattle.le.proofs.Laws.{leNat-leBytes}
 use Rattle.list.specs.Numbered.{numbered, rows}
@@ -78,10 +78,7 @@ module _ {X : Type 0} (enc : X → List ℕ) where
   unfolding flatMap
   row-bytes-last xs x = row-bytes-append xs (x ∷ []) ∙ ap (λ (l : List ℕ). rowBytes enc xs ++ l) (append-nil (enc x))
 
-  -- one more of a list, and one more by numbers
-  pub row-bytes-take : (xs : List X) (i : ℕ) (d : X) → i < length xs → rowBytes enc (take (suc i) xs) ≡ rowBytes enc (take i xs) ++ enc (getD xs i d)
-  row-bytes-take xs i d h = ap (rowBytes enc) (take-suc xs i d h) ∙ row-bytes-last (take i xs) (getD xs i d)
-
+  -- one more by numbers
   pub row-bytes-next : (f : ℕ → X) (n : ℕ) → rowBytes enc (numbered f (suc n)) ≡ rowBytes enc (numbered f n) ++ enc (f n)
   unfolding numbered
   row-bytes-next f n = row-bytes-last (numbered f n) (f n)

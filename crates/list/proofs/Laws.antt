@@ -1,11 +1,11 @@
 -- What numbered elements and rows are known by: how many, each of them, the next. Assumes nothing.
-use Prim.Native.Nat.{ℕ, zero, suc, _+_, _*_, _<_, _≤_}
+use Prim.Native.Nat.{ℕ, zero, suc, _*_, _<_}
 use native.Mathlib.Omega.{arith}
 use native.Mathlib.Decide.{decLt}
-use mathlib.Core.Path.{_≡_, refl, ap, ap₂, sym, _∙_}
+use mathlib.Core.Path.{_≡_, refl, ap, ap₂, _∙_}
 use mathlib.Core.List.{List, [], _∷_, _++_, map}
 use lib.ListN.{length, getD, drop, length-append}
-use lib.Seq.{drop-cons, getD-append-seam, ext-getD, getD-at}
+use lib.Seq.{drop-cons, getD-at}
 use Rattle.list.specs.Numbered.{numbered, rows}
 
 pub numbered-length {ℓ} : {X : Type ℓ} (f : ℕ → X) (n : ℕ) → length (numbered f n) ≡ n
@@ -50,12 +50,6 @@ pub numbered-map {ℓ} : {X Y : Type ℓ} (g : X → Y) (f : ℕ → X) (n : ℕ
 unfolding numbered
 numbered-map g f zero = refl
 numbered-map g f (suc n) = map-end g (numbered f n) (f n) ∙ ap (λ l. l ++ g (f n) ∷ []) (numbered-map g f n)
-
--- every list is numbered
-pub numbered-list {ℓ} : {X : Type ℓ} (l : List X) (d : X) → numbered (λ i. getD l i d) (length l) ≡ l
-numbered-list l d =
-    let n = numbered-length (λ i. getD l i d) (length l) in
-    ext-getD d (numbered (λ i. getD l i d) (length l)) l n (λ i h. numbered-at (λ i. getD l i d) (length l) i d (omega (arith, n, h)))
 
 -- ---- rows
 

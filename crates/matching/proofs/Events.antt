@@ -16,11 +16,11 @@ use Rattle.event.specs.Places.{linesAt}
 use Rattle.table.specs.Layout.{countsIn, partsIn}
 use Rattle.table.specs.Table.{eventOf, sheetOf}
 use Rattle.table.specs.declared.EventRow.{EventRow}
+use Rattle.table.proofs.Facts.{events-count}
 use Rattle.matching.specs.Rows.{eventFrom, EventIn}
 use Rattle.matching.specs.First.{ofNumber, matchOf, FirstAs, MatchAs}
 use Rattle.matching.specs.declared.Match.{Match}
 use Rattle.matching.specs.declared.Match.the-variants.{Event as Chosen, Nothing}
-use Rattle.matching.proofs.Sound.{sheet-events}
 
 -- ---- `is_hit`
 
@@ -57,7 +57,7 @@ module _ {kind : ℕ} {t s starts mids : List ℕ} {n i : ℕ} (f : Finding kind
   pub finding-last : countsIn t .events ≤ i → FirstAs kind t s starts mids n Nothing
   unfolding firstOf
   finding-last h =
-      let e : drop i (sheetOf (partsIn t) .events) ≡ [] = drop-of-length-le (sheetOf (partsIn t) .events) {i = i} (omega (arith, sheet-events t)) in
+      let e : drop i (sheetOf (partsIn t) .events) ≡ [] = drop-of-length-le (sheetOf (partsIn t) .events) {i = i} (omega (arith, events-count t)) in
       record { is = sym (f .still ∙ rw e); ok = tt }
 
   module _ (h : i < countsIn t .events) {v : Event} (next : drop i (sheetOf (partsIn t) .events) ≡ v ∷ drop (i + 1) (sheetOf (partsIn t) .events)) where

@@ -13,6 +13,7 @@ use Rattle.list.proofs.Laws.{rows-length, rows-at}
 use Rattle.text.specs.Conditions.{every}
 use Rattle.text.specs.Text.{same}
 use Rattle.text.proofs.Conditions.{fact}
+use Rattle.text.proofs.Every.{every-below}
 use Rattle.text.proofs.Same.{same-eq}
 use Rattle.signal.specs.Signal.{wildcard}
 use Rattle.words.specs.Words.{wordOk, keyParts, valueParts}
@@ -26,16 +27,10 @@ use Rattle.table.specs.declared.ClauseRow.{ClauseRow}
 use Rattle.table.specs.declared.WordRow.{WordRow}
 use Rattle.table.proofs.Facts.{table-facts}
 use Rattle.table.proofs.Heads.{headed, between-length, events-many, clauses-many, keys-many, values-many}
-use Rattle.table.proofs.Spans.{both, follow-within}
+use Rattle.table.proofs.Spans.{follow-within}
 use Rattle.matching.specs.Rows.{textOf, WordAmong, keysOf, valuesOf, clauseFrom, clausesOf, eventFrom, ClauseIn, EventIn}
 
 -- ---- lists
-
-pub every-at : {X : Type 0} (f : X → Bool) (d : X) (xs : List X) → every f xs ≡ true → (i : ℕ) → i < length xs → f (getD xs i d) ≡ true
-unfolding every
-every-at f d [] e i h = absurd (omega arith)
-every-at f d (x ∷ xs) e zero h = both (f x) (every f xs) e .0
-every-at f d (x ∷ xs) e (suc i) h = every-at f d xs (both (f x) (every f xs) e .1) i (omega arith)
 
 pub map-at : {X Y : Type 0} (f : X → Y) (xs : List X) (i : ℕ) (d : X) (b : Y) → i < length xs → getD (map f xs) i b ≡ f (getD xs i d)
 map-at f [] i d b h = absurd (omega arith)
@@ -77,7 +72,7 @@ module _ (limit n : ℕ) (l texts : List ℕ) (size : length l ≡ wordLength * 
 
   word-fine : wordOk limit (textOf l texts i) ≡ true
   unfolding wordsOk
-  word-fine = subst (λ x. wordOk limit x ≡ true) text-is (every-at (wordOk limit) [] (map (wordText texts) words) (fact _ ok 1) i (omega (arith, length-map words (wordText texts), many)))
+  word-fine = subst (λ x. wordOk limit x ≡ true) text-is (every-below (wordOk limit) [] (map (wordText texts) words) (fact _ ok 1) i (omega (arith, length-map words (wordText texts), many)))
 
 -- ---- `text_at`
 
@@ -214,12 +209,12 @@ module _ (t : List ℕ) (ok : isTable t ≡ true) where
   spans-fine = rw (← clauses-many t) (fact _ (fact _ (table-facts t ok .1) 2) 2)
 
   clause-fine : (i : ℕ) → i < countsIn t .clauses → ClauseIn t (getD (partsIn t .clauses) i noClause)
-  clause-fine i h = every-at (clauseOk (countsIn t .keys) (countsIn t .values)) noClause (partsIn t .clauses) clauses-fine i (omega (arith, clauses-many t))
+  clause-fine i h = every-below (clauseOk (countsIn t .keys) (countsIn t .values)) noClause (partsIn t .clauses) clauses-fine i (omega (arith, clauses-many t))
 
   event-fine : (i : ℕ) → i < countsIn t .events → EventIn t (getD (partsIn t .events) i noEvent)
   unfolding eventOk
   event-fine i h = record {
-    kind = leb-true _ _ (fact _ (every-at (eventOk (partsIn t .names)) noEvent (partsIn t .events) events-fine i (omega (arith, events-many t))) 0);
+    kind = leb-true _ _ (fact _ (every-below (eventOk (partsIn t .names)) noEvent (partsIn t .events) events-fine i (omega (arith, events-many t))) 0);
     clauses = follow-within (λ e. e .first) (λ e. e .count) noEvent 0 (countsIn t .clauses) (partsIn t .events) spans-fine i (omega (arith, events-many t));
   }
 
@@ -254,7 +249,3 @@ module _ {t : List ℕ} {p : Places} (a : Accepted t p) where
       pub event-next : drop i (sheetOf (partsIn t) .events) ≡ eventFrom t e ∷ drop (i + 1) (sheetOf (partsIn t) .events)
       unfolding sheetOf
       event-next = map-next (eventFrom t) (partsIn t .events) i noEvent (omega (arith, events-many t)) ∙ ap (λ x. eventFrom t x ∷ drop (i + 1) (map (eventFrom t) (partsIn t .events))) event-is
-
-pub sheet-events : (t : List ℕ) → length (sheetOf (partsIn t) .events) ≡ countsIn t .events
-unfolding sheetOf
-sheet-events t = length-map (partsIn t .events) (eventFrom t) ∙ events-many t

@@ -13,15 +13,10 @@ use lib.Seq.{slice}
 use Rattle.text.specs.Text.{same, split, onto, pipe}
 use Rattle.text.specs.Read.{Part, FirstAt}
 use Rattle.text.proofs.Laws.{part-cons}
-use Rattle.text.proofs.Parts.{split-some, split-next, split-last}
+use Rattle.text.proofs.Parts.{onto-count, split-some, split-next, split-last}
 use Rattle.sheet.specs.Lines.{fieldsOf}
 
 -- ---- how many
-
-onto-length : (x : ℕ) (ps : List (List ℕ)) → 1 ≤ length ps → length (onto x ps) ≡ length ps
-unfolding onto
-onto-length x [] h = absurd (omega arith)
-onto-length x (p ∷ ps) h = refl
 
 pub split-few : (b : ℕ) (l : List ℕ) → length (split b l) ≤ length l + 1
 unfolding split
@@ -30,7 +25,7 @@ split-few b (x ∷ t) = go (eqb x b) (split-few b t)
   where
     go : (e : Bool) → length (split b t) ≤ length t + 1 → length (cond e ([] ∷ split b t) (onto x (split b t))) ≤ suc (length t) + 1
     go true h = omega arith
-    go false h = omega (arith, onto-length x (split b t) (split-some b t))
+    go false h = omega (arith, onto-count x (split b t) (split-some b t))
 
 -- one part is the whole text
 split-one : (b : ℕ) (l : List ℕ) → length (split b l) ≡ 1 → split b l ≡ l ∷ []
@@ -41,7 +36,7 @@ split-one b (x ∷ t) h = go (eqb x b) (split-one b t) h
     go : (e : Bool) → (length (split b t) ≡ 1 → split b t ≡ t ∷ []) → length (cond e ([] ∷ split b t) (onto x (split b t))) ≡ 1
         → cond e ([] ∷ split b t) (onto x (split b t)) ≡ (x ∷ t) ∷ []
     go true ih g = absurd (omega (arith, split-some b t))
-    go false ih g = ap (onto x) (ih (omega (arith, onto-length x (split b t) (split-some b t))))
+    go false ih g = ap (onto x) (ih (omega (arith, onto-count x (split b t) (split-some b t))))
 
 -- the field that ends at r, and n fields behind it
 pub record Cut (s : List ℕ) (from to r n : ℕ) : Type 0 where

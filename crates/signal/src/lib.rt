@@ -9,13 +9,12 @@ use text::put_part;
 use text::read_i32;
 use utf8::Alone;
 ghost use mathlib.Core.Path.{_≡_};
-ghost use mathlib.Core.Bool.{Bool, true, false};
 ghost use Prim.Native.Nat.{_+_, _-_, _<_, _≤_};
 ghost use lib.ListN.{length};
 ghost use lib.Seq.{slice};
 ghost use Rattle.text.specs.Text.{same};
-ghost use Rattle.text.specs.Read.{Part, Put, numberOf, intOf};
-ghost use Rattle.signal.specs.Signal.{wildcard, keyOf, score as Signal·score};
+ghost use Rattle.text.specs.Read.{Part, numberOf, intOf};
+ghost use Rattle.signal.specs.Signal.{wildcard, score as Signal·score};
 ghost use Rattle.signal.specs.Read.{ThreeFrom, LastFrom, SignalOk, ReadAs, AloneAs, KeyPut, KeyAt, ValueAs};
 
 // The highest score of a signal.

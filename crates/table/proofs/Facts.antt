@@ -32,7 +32,7 @@ table-facts t e = go (headOk t) (partsOk (partsIn t)) e
 pub table-length : (t : List ℕ) (s : Sheet) → readTable t ≡ Got s → length t ≡ tableLength
 table-length t s e = headed t (table-facts t (read-is t s e .0) .0) .size
 
-events-count : (t : List ℕ) → length (sheetOf (partsIn t) .events) ≡ countsIn t .events
+pub events-count : (t : List ℕ) → length (sheetOf (partsIn t) .events) ≡ countsIn t .events
 unfolding sheetOf
 events-count t = rw length-map (events-many t)
 

@@ -10,9 +10,9 @@ use borrow.Author.Tests.{ltb-true}
 use Rattle.list.proofs.Laws.{rows-length, rows-at}
 use Rattle.text.specs.Conditions.{allOf}
 use Rattle.text.proofs.Conditions.{fact}
+use Rattle.text.proofs.Every.{every-below}
 use Rattle.words.specs.Words.{ascending, ordered}
 use Rattle.words.proofs.Apart.{apart}
-use Rattle.words.proofs.Sorted.{every-at}
 use Rattle.table.specs.Layout.{wordLength, wordIn, wordText}
 use Rattle.table.specs.Table.{wordsOk}
 use Rattle.table.specs.declared.WordRow.{WordRow}
@@ -43,7 +43,7 @@ module _ (l texts : List ℕ) (n limit : ℕ) where
         (follow-within (λ (w : WordRow). w .at) (λ w. w .len) (wordAt l j) 0 (length texts) ws (fact _ e 0) j (omega (arith, rows-length wordIn wordLength n l)));
     order = λ j k.
         rw (order-at l n j k, orders-many l n) at
-        (ltb-true (getD os j 0) (length os) (every-at (λ (o : ℕ). ltb o (length os)) os (fact _ f 0) j (omega (arith, orders-many l n))));
+        (ltb-true (getD os j 0) (length os) (every-below (λ (o : ℕ). ltb o (length os)) 0 os (fact _ f 0) j (omega (arith, orders-many l n))));
   }
 
   -- ---- the answers

@@ -4,6 +4,7 @@ pub mod Refusals
 pub mod Laws
 pub mod Same
 pub mod Conditions
+pub mod Every
 pub mod Parts
 pub mod Lines
 pub mod Digits

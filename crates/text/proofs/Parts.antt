@@ -102,7 +102,7 @@ pub record Counting (s : List ℕ) (from to b n i : ℕ) : Type 0 where
 pub counting-first : {s : List ℕ} {from to : ℕ} (b : ℕ) → Part s from to → Counting s from to b 1 from
 counting-first b p = record { left = p; begun = omega arith; few = omega arith; count = omega arith }
 
-onto-count : (x : ℕ) (ps : List (List ℕ)) → 1 ≤ length ps → length (onto x ps) ≡ length ps
+pub onto-count : (x : ℕ) (ps : List (List ℕ)) → 1 ≤ length ps → length (onto x ps) ≡ length ps
 unfolding onto
 onto-count x [] h = absurd (omega arith)
 onto-count x (p ∷ ps) h = refl

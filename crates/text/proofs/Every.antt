@@ -57,3 +57,9 @@ module _ {X : Type 0} (f : X → Bool) where
   pub every-three : (x y z : X) → f x ≡ true → f y ≡ true → f z ≡ true → every f (x ∷ y ∷ z ∷ []) ≡ true
   unfolding every
   every-three x y z h k l = rw (h, k, l)
+
+  -- an element's having it, for each, is enough
+  pub every-of : (d : X) (xs : List X) → ((i : ℕ) → i < length xs → f (getD xs i d) ≡ true) → every f xs ≡ true
+  unfolding every
+  every-of d [] h = refl
+  every-of d (x ∷ xs) h = rw (h 0 (omega arith)) (every-of d xs (λ i k. h (suc i) (omega arith)))
