@@ -21,7 +21,8 @@ use Rattle.fine.proofs.Joined.{total}
 use Rattle.fine.proofs.Facts.{clause-facts}
 use Rattle.table.specs.Table.{clauseOk, keyUses, valueUses, clausesOk, clauseOf}
 use Rattle.table.specs.declared.ClauseRow.{ClauseRow}
-use Rattle.layout.proofs.Sized.{ClauseFits, AllAt, all-numbered}
+use Rattle.layout.specs.Fits.{ClauseFits, AllAt}
+use Rattle.layout.proofs.Sized.{all-numbered}
 use Rattle.draft.specs.Codes.{keysIn, valuesIn, notedAll, numbersOf, valuesNoted, codesOf}
 use Rattle.draft.specs.Draft.{clauseRow, clauseRows}
 use Rattle.draft.proofs.Codes.{Named, number-named, numbers-length, numbers-in-order, Coded, value-coded, codes-length, usesOf, uses-in-order, all-lighter, values-lighter}

@@ -20,7 +20,8 @@ use Rattle.fine.specs.Fine.{allClauses, namesWeight}
 use Rattle.fine.proofs.Facts.{EventFacts}
 use Rattle.table.specs.Layout.{eventText}
 use Rattle.table.specs.Table.{follow, eventOk, eventsOk, eventOf}
-use Rattle.layout.proofs.Sized.{EventFits, AllAt, all-numbered}
+use Rattle.layout.specs.Fits.{EventFits, AllAt}
+use Rattle.layout.proofs.Sized.{all-numbered}
 use Rattle.draft.specs.Draft.{namesAt, namesLength, eventRow, eventRows}
 use Rattle.draft.proofs.Rows.{numbered-every, follow-numbered, sum-end}
 
@@ -70,14 +71,22 @@ unfolding namesWeight
 names-append [] ds = omega arith
 names-append (e ∷ es) ds = omega (arith, names-append es ds)
 
+-- names that lie in s are as long as they say
+module _ (s es : List ℕ) (n : ℕ) (within : (i : ℕ) → i < n → numberAt es i 2 + numberAt es i 3 ≤ length s) where
+  name-within : (i : ℕ) → i < n → length (nameAt s es i) ≡ numberAt es i 3
+  name-within i h = length-part s (numberAt es i 2) (numberAt es i 3) (within i h)
+
+  pub names-within : (k : ℕ) → k ≤ n → length (namesAt s es k) ≡ namesLength es k
+  unfolding namesAt namesLength
+  names-within zero h = refl
+  names-within (suc k) h = omega (arith, length-append (namesAt s es k) (nameAt s es k), name-within k (omega arith), names-within k (omega arith))
+
 module _ {s es : List ℕ} {cs : List Clause} {n : ℕ} (c : Chain s es cs n) where
   name-length : (i : ℕ) → i < n → length (nameAt s es i) ≡ numberAt es i 3
-  name-length i h = length-part s (numberAt es i 2) (numberAt es i 3) (c .name i h)
+  name-length = name-within s es n (c .name)
 
   names-to : (k : ℕ) → k ≤ n → length (namesAt s es k) ≡ namesLength es k
-  unfolding namesAt namesLength
-  names-to zero h = refl
-  names-to (suc k) h = omega (arith, length-append (namesAt s es k) (nameAt s es k), name-length k (omega arith), names-to k (omega arith))
+  names-to = names-within s es n (c .name)
 
   pub names-length : length (namesAt s es n) ≡ namesLength es n
   names-length = names-to n (omega arith)

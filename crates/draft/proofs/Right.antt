@@ -15,7 +15,7 @@ use Rattle.words.specs.Words.{keyParts, valueParts}
 use Rattle.fine.specs.Fine.{fineSheet}
 use Rattle.fine.proofs.Facts.{sheet-facts}
 use Rattle.table.specs.Table.{settingsOk, partsOk, sheetOf}
-use Rattle.layout.proofs.Sized.{Sized}
+use Rattle.layout.specs.Fits.{Sized}
 use Rattle.draft.specs.Draft.{Words, wordRows, clauseRows, eventRow, eventRows, draft, Drafted}
 use Rattle.draft.proofs.Words.{word-texts, words-ok, words-fit, words-count, rows-count}
 use Rattle.draft.proofs.Clauses.{keysTo, valuesTo, few-keys, few-values, clauses-mean, clauses-ok, clauses-fit}

@@ -19,7 +19,8 @@ use Rattle.wordbook.specs.Wordbook.{wordAt, wordsAt, Book}
 use Rattle.wordbook.proofs.Books.{words-length, starts-rise, book-lined, book-distinct}
 use Rattle.table.specs.Layout.{wordText}
 use Rattle.table.specs.Table.{follow, wordsOk}
-use Rattle.layout.proofs.Sized.{WordFits, AllAt, all-numbered}
+use Rattle.layout.specs.Fits.{WordFits, AllAt}
+use Rattle.layout.proofs.Sized.{all-numbered}
 use Rattle.draft.specs.Draft.{Words, wordRow, wordRows, wordTexts, BookOf, wordsOf}
 use Rattle.draft.proofs.Codes.{total-append}
 use Rattle.draft.proofs.Rows.{numbered-take, follow-numbered}

@@ -13,7 +13,8 @@ use Rattle.table.specs.declared.ClauseRow.{ClauseRow}
 use Rattle.table.specs.declared.WordRow.{WordRow}
 use Rattle.table.proofs.Examples.{soy, meant}
 use Rattle.layout.specs.Build.{tableOf}
-use Rattle.layout.proofs.Sized.{EventFits, ClauseFits, WordFits, all-none, all-more, Sized}
+use Rattle.layout.specs.Fits.{EventFits, ClauseFits, WordFits, Sized}
+use Rattle.layout.proofs.Sized.{all-none, all-more}
 use Rattle.layout.proofs.Table.{table-means}
 use Rattle.layout.proofs.Opened.{opened}
 

@@ -1,5 +1,5 @@
 -- The header of a table is read back, whatever is behind it. Assumes nothing.
-use Prim.Native.Nat.{ℕ, _^_, _<_}
+use Prim.Native.Nat.{ℕ}
 use mathlib.Core.List.{List, _++_}
 use mathlib.Core.Path.{_≡_, refl}
 use lib.ListN.{length}
@@ -9,38 +9,12 @@ use Rattle.table.specs.Layout.{headLength, settingsIn, countsIn, placesIn, Part
 use Rattle.table.specs.declared.Settings.{Settings}
 use Rattle.table.specs.declared.Counts.{Counts}
 use Rattle.table.specs.declared.Places.{Places}
+use Rattle.layout.specs.Fits.{SettingsFit, CountsFit, PlacesFit}
 use Rattle.layout.specs.Build.{settingsBytes, countsBytes, placesBytes, headBytes}
 
 pub head-length : (p : Parts) → length (headBytes p) ≡ headLength
 unfolding headBytes settingsBytes countsBytes placesBytes leBytes
 head-length p = refl
-
--- ---- numbers that fit 32 bits
-
-pub record SettingsFit (s : Settings) : Type 0 where
-  pub interval : s .interval < 2 ^ 32
-  pub timeout : s .timeout < 2 ^ 32
-  pub stop : s .stop < 2 ^ 32
-  pub t0 : s .t0 < 2 ^ 32
-
-pub record CountsFit (c : Counts) : Type 0 where
-  pub events : c .events < 2 ^ 32
-  pub clauses : c .clauses < 2 ^ 32
-  pub keys : c .keys < 2 ^ 32
-  pub values : c .values < 2 ^ 32
-  pub name : c .name < 2 ^ 32
-  pub symbol : c .symbol < 2 ^ 32
-
-pub record PlacesFit (q : Places) : Type 0 where
-  pub events : q .events < 2 ^ 32
-  pub clauses : q .clauses < 2 ^ 32
-  pub keys : q .keys < 2 ^ 32
-  pub values : q .values < 2 ^ 32
-  pub texts : q .texts < 2 ^ 32
-  pub names : q .names < 2 ^ 32
-  pub keytexts : q .keytexts < 2 ^ 32
-  pub valuetexts : q .valuetexts < 2 ^ 32
-  pub used : q .used < 2 ^ 32
 
 module _ (s : Settings) (c : Counts) (q : Places) (rest : List ℕ) where
   abbrev headed : List ℕ

@@ -15,7 +15,7 @@ use Rattle.table.specs.declared.EventRow.{EventRow}
 use Rattle.table.specs.declared.ClauseRow.{ClauseRow}
 use Rattle.table.specs.declared.WordRow.{WordRow}
 use Rattle.layout.specs.Build.{eventBytes, clauseBytes, wordBytes, rowBytes}
-use Rattle.layout.proofs.Sized.{EventFits, ClauseFits, WordFits, AllAt}
+use Rattle.layout.specs.Fits.{EventFits, ClauseFits, WordFits, AllAt}
 
 -- ---- one row
 

@@ -13,9 +13,9 @@ use Rattle.table.specs.Table.{settingsOk, countsOk, placesOk, headOk, partsOk, 
 use Rattle.table.specs.Compile.{Means}
 use Rattle.table.specs.declared.Settings.{Settings}
 use Rattle.layout.specs.Build.{eventBytes, clauseBytes, wordBytes, countsFor, placesFor, headBytes, usedBytes, zerosAfter, tableOf}
-use Rattle.layout.proofs.Sized.{EventFits, ClauseFits, WordFits, Sized}
+use Rattle.layout.specs.Fits.{SettingsFit, CountsFit, PlacesFit, EventFits, ClauseFits, WordFits, Sized}
 use Rattle.layout.proofs.Rows.{event-length, clause-length, word-length, event-back, clause-back, word-back, rows-back}
-use Rattle.layout.proofs.Head.{SettingsFit, CountsFit, PlacesFit, settings-back, counts-back, places-back}
+use Rattle.layout.proofs.Head.{settings-back, counts-back, places-back}
 use Rattle.layout.proofs.Placed.{here, behind, by-head, events-at, clauses-at, keys-at, values-at, name-at, symbol-at, names-at, keytexts-at, valuetexts-at, used-length}
 
 -- settings within their limits fit

@@ -1,2 +1,3 @@
 -- The definitions of the bytes that compiling writes.
 pub mod Build
+pub mod Fits

@@ -1,25 +1,20 @@
 -- What writing a table asks is so of a draft that is known to be right and within the limits. Assumes nothing.
-use Prim.Native.Nat.{ℕ, _*_, _<_, _≤_}
+use Prim.Native.Nat.{ℕ, _*_, _≤_}
 use native.Mathlib.Omega.{arith}
 use mathlib.Core.List.{List}
 use mathlib.Core.Path.{subst}
 use lib.ListN.{length}
 use Rattle.list.specs.Numbered.{numbered}
-use Rattle.list.proofs.Laws.{numbered-length, numbered-at}
 use Rattle.sheet.specs.Places.{clauseNumbers, eventNumbers, SettingsOk}
 use Rattle.sheet.specs.declared.SheetAt.{SheetAt}
 use Rattle.table.specs.declared.Places.{Places}
-use Rattle.layout.proofs.Sized.{EventFits, ClauseFits, WordFits, AllAt, Sized}
-use Rattle.layout.proofs.Head.{SettingsFit}
+use Rattle.layout.specs.Fits.{SettingsFit, EventFits, ClauseFits, WordFits, AllAt, Sized}
 use Rattle.layout.proofs.Table.{used-fits}
+use Rattle.layout.proofs.Sized.{numbered-all}
 use Rattle.wordbook.specs.Wordbook.{Book}
 use Rattle.draft.specs.Draft.{Words, wordRow, clauseRow, eventRow, draft, Drafted}
 use Rattle.writer.specs.Fits.{settingsOf, WordsFit, TextsFit, wordsLength, TableFits}
 use Rattle.writer.proofs.Table.{places-are}
-
--- each element of a numbered list
-each : {X : Type 0} (P : X → Type 0) (f : ℕ → X) (n : ℕ) → AllAt P (numbered f n) → (i : ℕ) → i < n → P (f i)
-each P f n k i h = subst P (numbered-at f n i (f i) h) (k i (f i) (omega (arith, numbered-length f n)))
 
 settings-fit : {a : SheetAt} → SettingsOk a → SettingsFit (settingsOf a)
 settings-fit k = record { interval = omega arith; timeout = omega arith; stop = omega arith; t0 = omega arith }
@@ -31,7 +26,7 @@ words-fit {texts} {starts} {orders} {ranks} {n} b f = record {
   orders-room = b .orders-room;
   ranks-room = b .ranks-room;
   rising = b .rising;
-  each = each WordFits (wordRow starts orders ranks) n f;
+  each = numbered-all WordFits (wordRow starts orders ranks) n f;
 }
 
 module _ {s es cs : List ℕ} {a : SheetAt} {numbers codes : List ℕ} {ks vs : Words} (d : Drafted s es cs a numbers codes ks vs) where
@@ -56,8 +51,8 @@ module _ {s es cs : List ℕ} {a : SheetAt} {numbers codes : List ℕ} {ks vs : 
       let used = subst (λ (q : Places). q .used ≤ 28108) (places-are s es cs a numbers codes ks vs t) (used-fits z) in
       record {
         settings = settings-fit (d .sheet .settings);
-        events = record { room = he; each = each EventFits (eventRow es) (a .events) (z .eventRows) };
-        clauses = record { room = hc; keys = hn; values = hv; each = each ClauseFits (clauseRow cs numbers codes) (a .clauses) (z .clauseRows) };
+        events = record { room = he; each = numbered-all EventFits (eventRow es) (a .events) (z .eventRows) };
+        clauses = record { room = hc; keys = hn; values = hv; each = numbered-all ClauseFits (clauseRow cs numbers codes) (a .clauses) (z .clauseRows) };
         keys = words-fit (d .keys) (z .keyRows);
         values = words-fit (d .values) (z .valueRows);
         texts = t;

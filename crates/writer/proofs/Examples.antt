@@ -5,7 +5,7 @@ use mathlib.Core.List.{List, [], _∷_}
 use lib.ListN.{length, getD, drop}
 use Rattle.text.specs.Literal.{bytes}
 use Rattle.sheet.specs.declared.SheetAt.{SheetAt}
-use Rattle.layout.proofs.Sized.{EventFits, ClauseFits, WordFits}
+use Rattle.layout.specs.Fits.{EventFits, ClauseFits, WordFits}
 use Rattle.draft.specs.Draft.{Words, wordRow, clauseRow, eventRow}
 use Rattle.writer.specs.Fits.{TableFits}
 use Rattle.writer.proofs.Opened.{opened}

@@ -17,7 +17,7 @@ use Rattle.table.specs.declared.ClauseRow.{ClauseRow}
 use Rattle.table.specs.declared.WordRow.{WordRow}
 use Rattle.layout.specs.Build.{eventBytes, clauseBytes, wordBytes, rowBytes}
 use Rattle.layout.proofs.Rows.{row-bytes-next}
-use Rattle.layout.proofs.Sized.{EventFits, ClauseFits}
+use Rattle.layout.specs.Fits.{EventFits, ClauseFits}
 use Rattle.draft.specs.Draft.{wordRow, clauseRow, eventRow, namesLength}
 use Rattle.writer.specs.Fits.{PutOf, eventOf, clauseOf, EventsFit, ClausesFit, WordsFit, WordFit}
 

@@ -1,31 +1,24 @@
 -- The header, the rows and the texts that are written are the table of the draft. Assumes nothing.
-use Prim.Native.Nat.{ℕ, zero, suc, _+_, _-_, _*_, _≤_}
+use Prim.Native.Nat.{ℕ, _+_, _-_, _≤_}
 use native.Mathlib.Omega.{arith}
-use mathlib.Core.Path.{_≡_, refl, sym, ap₂, _∙_, subst}
+use mathlib.Core.Path.{_≡_, sym, ap₂, _∙_, subst}
 use mathlib.Core.List.{List, _++_, append-assoc}
-use lib.ListN.{length, getD, take, drop, replicate, length-append, length-drop}
+use lib.ListN.{length, replicate}
 use lib.Seq.{slice, length-slice, length-take-le}
 use Rattle.list.proofs.Laws.{numbered-length}
-use Rattle.le.specs.Le.{part}
 use Rattle.text.specs.Read.{Put}
 use Rattle.text.proofs.Put.{put-put}
-use Rattle.sheet.specs.Places.{eventNumbers}
 use Rattle.sheet.specs.declared.SheetAt.{SheetAt}
 use Rattle.table.specs.Layout.{tableLength, Parts}
 use Rattle.layout.specs.Build.{eventBytes, clauseBytes, wordBytes, rowBytes, settingsBytes, countsBytes, placesBytes, countsFor, placesFor, headBytes, bodyBytes, usedBytes, tableOf}
 use Rattle.layout.proofs.Fill.{put-table}
 use Rattle.draft.specs.Draft.{Words, wordRow, wordRows, wordTexts, clauseRow, clauseRows, namesAt, namesLength, eventRow, eventRows, draft}
+use Rattle.draft.proofs.Events.{names-within}
 use Rattle.writer.specs.Fits.{PutOf, NamesFit, settingsOf, countsOf, TextsFit, wordsLength, placesKept, TableFits}
 
 -- the names are as long as they say
 names-length : {s es : List ℕ} {n : ℕ} → NamesFit s es n → (i : ℕ) → i ≤ n → length (namesAt s es i) ≡ namesLength es i
-unfolding namesAt namesLength part
-names-length f zero h = refl
-names-length {s} {es} f (suc i) h =
-    let l = drop (eventNumbers * i) es in
-    let k : length (take (getD l 3 0) (drop (getD l 2 0) s)) ≡ getD l 3 0 =
-    length-take-le (getD l 3 0) (drop (getD l 2 0) s) (omega (arith, length-drop (getD l 2 0) s, f .each i h)) in
-    length-append (namesAt s es i) (part s (getD l 2 0) (getD l 3 0)) ∙ ap₂ _+_ (names-length f i (omega arith)) k
+names-length {s} {es} {n} f = names-within s es n (f .each)
 
 -- ---- the counts and places of the draft
 

@@ -13,8 +13,7 @@ use Rattle.table.specs.declared.Counts.{Counts}
 use Rattle.table.specs.declared.Places.{Places}
 use Rattle.table.specs.declared.EventRow.{EventRow}
 use Rattle.table.specs.declared.ClauseRow.{ClauseRow}
-use Rattle.layout.proofs.Sized.{EventFits, ClauseFits, WordFits}
-use Rattle.layout.proofs.Head.{SettingsFit}
+use Rattle.layout.specs.Fits.{SettingsFit, EventFits, ClauseFits, WordFits}
 use Rattle.draft.specs.Draft.{Words, wordRow, clauseRow, eventRow, namesLength}
 
 -- t was written, in n bytes

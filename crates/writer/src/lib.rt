@@ -21,8 +21,7 @@ ghost use Rattle.text.specs.Read.{Part, Put};
 ghost use Rattle.sheet.specs.Places.{eventNumbers, clauseNumbers};
 ghost use Rattle.table.specs.Layout.{tableLength, headLength, eventLength, clauseLength, wordLength};
 ghost use Rattle.layout.specs.Build.{eventBytes, clauseBytes, wordBytes, rowBytes, settingsBytes, countsBytes, placesBytes, tableOf};
-ghost use Rattle.layout.proofs.Sized.{EventFits, ClauseFits};
-ghost use Rattle.layout.proofs.Head.{SettingsFit};
+ghost use Rattle.layout.specs.Fits.{SettingsFit, EventFits, ClauseFits};
 ghost use Rattle.draft.specs.Draft.{wordRow, wordRows, clauseRows, eventRows, namesAt, namesLength, draft};
 ghost use Rattle.writer.specs.Fits.{PutOf, eventOf, clauseOf, EventsFit, NamesFit, ClausesFit, WordsFit, WordFit, settingsOf, countsOf, placesOf, HeadFits, TextsFit, TableFits};
 
