@@ -34,12 +34,13 @@ wordRows starts orders ranks n = numbered (wordRow starts orders ranks) n
 abbrev pub wordTexts : Words → List ℕ
 wordTexts w = take (getD (w .starts) (w .count) 0) (w .texts)
 
+-- the row of a clause whose numbers stand first in l, with the number of its key, and its values' codes first in v
+abbrev pub clauseRowOf : List ℕ → ℕ → List ℕ → ClauseRow
+clauseRowOf l key v = record { kind = getD l 0 0; key = key; v1 = getD v 0 0; v2 = getD v 1 0; v3 = getD v 2 0; score = getD l 8 0 }
+
 -- row i of the clauses: cs has nine numbers for each clause, `numbers` one key, `codes` three values
 unfoldable pub clauseRow : List ℕ → List ℕ → List ℕ → ℕ → ClauseRow
-clauseRow cs numbers codes i =
-    let l = drop (clauseNumbers * i) cs in
-    let v = drop (3 * i) codes in
-    record { kind = getD l 0 0; key = getD numbers i 0; v1 = getD v 0 0; v2 = getD v 1 0; v3 = getD v 2 0; score = getD l 8 0 }
+clauseRow cs numbers codes i = clauseRowOf (drop (clauseNumbers * i) cs) (getD numbers i 0) (drop (3 * i) codes)
 
 abbrev pub clauseRows : List ℕ → List ℕ → List ℕ → ℕ → List ClauseRow
 clauseRows cs numbers codes n = numbered (clauseRow cs numbers codes) n
@@ -53,10 +54,12 @@ unfoldable pub namesLength : List ℕ → ℕ → ℕ
 namesLength es zero = 0
 namesLength es (suc n) = namesLength es n + getD (drop (eventNumbers * n) es) 3 0
 
+-- the row of an event whose numbers stand first in l, with its name at `at` of the names
+abbrev pub eventRowOf : List ℕ → ℕ → EventRow
+eventRowOf l at = record { kind = getD l 0 0; operate = getD l 1 0; at = at; len = getD l 3 0; first = getD l 4 0; count = getD l 5 0 }
+
 unfoldable pub eventRow : List ℕ → ℕ → EventRow
-eventRow es i =
-    let l = drop (eventNumbers * i) es in
-    record { kind = getD l 0 0; operate = getD l 1 0; at = namesLength es i; len = getD l 3 0; first = getD l 4 0; count = getD l 5 0 }
+eventRow es i = eventRowOf (drop (eventNumbers * i) es) (namesLength es i)
 
 abbrev pub eventRows : List ℕ → ℕ → List EventRow
 eventRows es n = numbered (eventRow es) n

@@ -7,7 +7,7 @@ use lib.ListN.{length, drop, replicate, length-append}
 use lib.Seq.{take-at, drop-at, drop-drop}
 use Rattle.le.specs.Le.{part}
 use Rattle.table.specs.Layout.{headLength, eventLength, clauseLength, wordLength, Parts, between}
-use Rattle.layout.specs.Build.{eventBytes, clauseBytes, wordBytes, rowBytes, placesFor, headBytes, bodyBytes, usedBytes, zerosAfter, tableOf}
+use Rattle.layout.specs.Build.{eventBytes, clauseBytes, wordBytes, rowBytes, countsFor, placesFor, headBytes, bodyBytes, usedBytes, zerosAfter, tableOf}
 use Rattle.layout.proofs.Rows.{event-length, clause-length, word-length, row-bytes-length}
 use Rattle.layout.proofs.Head.{head-length}
 
@@ -77,47 +77,47 @@ module _ (p : Parts) where
   by-head = simp append-assoc
 
   pub events-at : Stands (tableOf p) (placesFor p .events) (placesFor p .clauses) (rowBytes eventBytes (p .events)) afterEvents
-  unfolding placesFor
+  unfolding placesFor countsFor
   events-at = record {
     from = rw by-head (drop-at (headBytes p) (rowBytes eventBytes (p .events) ++ afterEvents) headLength (head-length p));
     size = omega (arith, events-length);
   }
 
   pub clauses-at : Stands (tableOf p) (placesFor p .clauses) (placesFor p .keys) (rowBytes clauseBytes (p .clauses)) afterClauses
-  unfolding placesFor
+  unfolding placesFor countsFor
   clauses-at = next events-at (omega (arith, clauses-length))
 
   pub keys-at : Stands (tableOf p) (placesFor p .keys) (placesFor p .values) (rowBytes wordBytes (p .keys)) afterKeys
-  unfolding placesFor
+  unfolding placesFor countsFor
   keys-at = next clauses-at (omega (arith, keys-length))
 
   pub values-at : Stands (tableOf p) (placesFor p .values) (placesFor p .texts) (rowBytes wordBytes (p .values)) afterValues
-  unfolding placesFor
+  unfolding placesFor countsFor
   values-at = next keys-at (omega (arith, values-length))
 
   pub name-at : Stands (tableOf p) (placesFor p .texts) (placesFor p .texts + length (p .name)) (p .name) afterName
   name-at = next values-at refl
 
   pub symbol-at : Stands (tableOf p) (placesFor p .texts + length (p .name)) (placesFor p .names) (p .symbol) afterSymbol
-  unfolding placesFor
+  unfolding placesFor countsFor
   symbol-at = next name-at refl
 
   pub names-at : Stands (tableOf p) (placesFor p .names) (placesFor p .keytexts) (p .names) afterNames
-  unfolding placesFor
+  unfolding placesFor countsFor
   names-at = next symbol-at refl
 
   pub keytexts-at : Stands (tableOf p) (placesFor p .keytexts) (placesFor p .valuetexts) (p .keytexts) afterKeytexts
-  unfolding placesFor
+  unfolding placesFor countsFor
   keytexts-at = next names-at refl
 
   pub valuetexts-at : Stands (tableOf p) (placesFor p .valuetexts) (placesFor p .used) (p .valuetexts) afterValuetexts
-  unfolding placesFor
+  unfolding placesFor countsFor
   valuetexts-at = next keytexts-at refl
 
   -- ---- how long they are together
 
   pub body-length : headLength + length (bodyBytes p) ≡ placesFor p .used
-  unfolding bodyBytes placesFor
+  unfolding bodyBytes placesFor countsFor
   body-length = simp length-append (omega (arith, events-length, clauses-length, keys-length, values-length))
 
   pub used-length : length (usedBytes p) ≡ placesFor p .used

@@ -31,7 +31,7 @@ settings-fit s e =
 module _ {p : Parts} (z : Sized p) where
   -- 76 + 32 events, 256 clauses, 256 keys, 768 values and 16,384 bytes of texts
   pub used-fits : placesFor p .used ≤ 28108
-  unfolding placesFor
+  unfolding placesFor countsFor
   used-fits = omega arith
 
   pub table-length : length (tableOf p) ≡ tableLength
@@ -46,7 +46,7 @@ module _ {p : Parts} (z : Sized p) where
   counts-fit = record { events = omega arith; clauses = omega arith; keys = omega arith; values = omega arith; name = omega arith; symbol = omega arith }
 
   places-fit : PlacesFit (placesFor p)
-  unfolding placesFor
+  unfolding placesFor countsFor
   places-fit = record {
     events = omega arith;
     clauses = omega arith;

@@ -52,27 +52,28 @@ countsFor p =
       symbol = length (p .symbol);
     }
 
--- "offsets follow each other"
-unfoldable pub placesFor : Parts → Places
-placesFor p =
-    let clauses = headLength + eventLength * length (p .events) in
-    let keys = clauses + clauseLength * length (p .clauses) in
-    let values = keys + wordLength * length (p .keys) in
-    let texts = values + wordLength * length (p .values) in
-    let names = texts + length (p .name) + length (p .symbol) in
-    let keytexts = names + length (p .names) in
-    let valuetexts = keytexts + length (p .keytexts) in
+-- "offsets follow each other": by the counts, and by how long the events' names, the keys and the values are
+abbrev pub placesOf : Counts → ℕ → ℕ → ℕ → Places
+placesOf c names keytexts valuetexts =
+    let clauses = headLength + eventLength * c .events in
+    let keys = clauses + clauseLength * c .clauses in
+    let values = keys + wordLength * c .keys in
+    let texts = values + wordLength * c .values in
+    let first = texts + c .name + c .symbol in
     record {
       events = headLength;
       clauses = clauses;
       keys = keys;
       values = values;
       texts = texts;
-      names = names;
-      keytexts = keytexts;
-      valuetexts = valuetexts;
-      used = valuetexts + length (p .valuetexts);
+      names = first;
+      keytexts = first + names;
+      valuetexts = first + names + keytexts;
+      used = first + names + keytexts + valuetexts;
     }
+
+unfoldable pub placesFor : Parts → Places
+placesFor p = placesOf (countsFor p) (length (p .names)) (length (p .keytexts)) (length (p .valuetexts))
 
 -- ---- the table
 

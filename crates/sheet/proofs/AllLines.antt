@@ -20,7 +20,7 @@ use Rattle.utf8.specs.Utf8.{utf8}
 use Rattle.utf8.specs.Alone.{text, textLimit}
 use Rattle.sheet.specs.Sheet.{Sheet}
 use Rattle.sheet.specs.Read.{sheetLine, laterLine, positionLine, readSheet}
-use Rattle.sheet.specs.Places.{sheetAt, sheetOf, SheetOk, ReadOk, SheetIs, SheetAs}
+use Rattle.sheet.specs.Places.{sheetAt, readOf, SheetOk, ReadOk, SheetIs, SheetAs}
 use Rattle.sheet.specs.Lines.{fieldsOf, linesOn, LineAs, LinesAs, PositionAs}
 use Rattle.sheet.specs.declared.SheetAt.{SheetAt}
 use Rattle.sheet.proofs.SheetRead.{the-type}
@@ -96,7 +96,7 @@ module _ {s : List ℕ} {from : ℕ} {a₀ : SheetAt} {es₀ cs₀ es cs : List 
           events = p;
           clauses = q;
           ok = subst (ReadOk s fs ds) k (l .ok);
-          same = one-more ∙ ap (λ x. x >>= λ t. linesOn s t (e + 1)) (sym (sym (ap (sheetOf s fs ds) k) ∙ l .is));
+          same = one-more ∙ ap (λ x. x >>= λ t. linesOn s t (e + 1)) (sym (sym (ap (readOf s fs ds) k) ∙ l .is));
         }
 
 pub going-first : {s es cs : List ℕ} {a : SheetAt} {i : ℕ} → i ≤ length s → length es ≡ 192 → length cs ≡ 2304 → SheetOk s es cs a → Going s i a es cs es cs a i
@@ -146,7 +146,7 @@ module _ (s es cs : List ℕ) (short : length s ≤ textLimit) (right : utf8 s �
 
         pub sheet-is : {fs ds : List ℕ} {q : SheetRead} → LinesAs s (e + 1) a es cs fs ds q → SheetAs s fs ds q
         sheet-is l = record {
-          is = l .is ∙ sym (first-then ∙ ap (λ x. x >>= λ t. linesOn s t (e + 1)) (sym (sym (ap (sheetOf s es cs) k) ∙ p es cs .is)));
+          is = l .is ∙ sym (first-then ∙ ap (λ x. x >>= λ t. linesOn s t (e + 1)) (sym (sym (ap (readOf s es cs) k) ∙ p es cs .is)));
           ok = l .ok;
         }
 

@@ -105,15 +105,15 @@ pub record SheetOk (s es cs : List ℕ) (a : SheetAt) : Type 0 where
 -- ---- the answers
 
 -- the number and the sheet of each answer
-abbrev pub sheetOf : List ℕ → List ℕ → List ℕ → SheetRead → Answer Sheet
-sheetOf s es cs (Is a) = Got (sheetAt s es cs a)
-sheetOf s es cs PastLimit = Refused 7
-sheetOf s es cs NotUtf8 = Refused 1
-sheetOf s es cs Malformed = Refused 2
-sheetOf s es cs BadNumber = Refused 3
-sheetOf s es cs UnknownOperate = Refused 4
-sheetOf s es cs NotSeven = Refused 5
-sheetOf s es cs BadScore = Refused 6
+abbrev pub readOf : List ℕ → List ℕ → List ℕ → SheetRead → Answer Sheet
+readOf s es cs (Is a) = Got (sheetAt s es cs a)
+readOf s es cs PastLimit = Refused 7
+readOf s es cs NotUtf8 = Refused 1
+readOf s es cs Malformed = Refused 2
+readOf s es cs BadNumber = Refused 3
+readOf s es cs UnknownOperate = Refused 4
+readOf s es cs NotSeven = Refused 5
+readOf s es cs BadScore = Refused 6
 
 abbrev pub ReadOk : List ℕ → List ℕ → List ℕ → SheetRead → Type 0
 ReadOk s es cs (Is a) = SheetOk s es cs a
@@ -127,7 +127,7 @@ ReadOk s es cs BadScore = Unit {0}
 
 -- r is the answer x, with es and cs as they are at exit
 pub record SheetIs (s es cs : List ℕ) (x : Answer Sheet) (r : SheetRead) : Type 0 where
-  pub is : sheetOf s es cs r ≡ x
+  pub is : readOf s es cs r ≡ x
   pub ok : ReadOk s es cs r
 
 -- r is what s says

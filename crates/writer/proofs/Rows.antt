@@ -18,8 +18,8 @@ use Rattle.table.specs.declared.WordRow.{WordRow}
 use Rattle.layout.specs.Build.{eventBytes, clauseBytes, wordBytes, rowBytes}
 use Rattle.layout.proofs.Rows.{row-bytes-next}
 use Rattle.layout.specs.Fits.{EventFits, ClauseFits}
-use Rattle.draft.specs.Draft.{wordRow, clauseRow, eventRow, namesLength}
-use Rattle.writer.specs.Fits.{PutOf, eventOf, clauseOf, EventsFit, ClausesFit, WordsFit, WordFit}
+use Rattle.draft.specs.Draft.{eventRowOf, clauseRowOf, wordRow, clauseRow, eventRow, namesLength}
+use Rattle.writer.specs.Fits.{PutOf, EventsFit, ClausesFit, WordsFit, WordFit}
 
 -- i of n rows of w bytes each were written from `at` on, up to p
 pub record Rowing {X : Type 0} (enc : X → List ℕ) (w : ℕ) (f : ℕ → X) (n : ℕ) (l : List ℕ) (at : ℕ) (m : List ℕ) (i p : ℕ) : Type 0 where
@@ -73,7 +73,7 @@ eventing-first {es} {n} f l at h = record { fit = f; rows = rowing-first eventBy
 module _ {es : List ℕ} {n : ℕ} {l : List ℕ} {at : ℕ} {m : List ℕ} {i p names : ℕ} (x : Eventing es n l at m i p names) where
   -- as the code makes it
   abbrev row : EventRow
-  row = eventOf (from (eventNumbers * i) es) names
+  row = eventRowOf (from (eventNumbers * i) es) names
 
   row-is : row ≡ eventRow es i
   unfolding eventRow
@@ -109,7 +109,7 @@ clausing-first {cs} {numbers} {codes} {n} f l at h = record { fit = f; rows = ro
 module _ {cs numbers codes : List ℕ} {n : ℕ} {l : List ℕ} {at : ℕ} {m : List ℕ} {i p : ℕ} (x : Clausing cs numbers codes n l at m i p) where
   -- as the code makes it
   abbrev made : ClauseRow
-  made = clauseOf (from (clauseNumbers * i) cs) (getD numbers i 0) (from (3 * i) codes)
+  made = clauseRowOf (from (clauseNumbers * i) cs) (getD numbers i 0) (from (3 * i) codes)
 
   made-is : made ≡ clauseRow cs numbers codes i
   unfolding clauseRow

@@ -55,7 +55,7 @@ module _ (s es cs : List ℕ) (a : SheetAt) (numbers codes : List ℕ) (ks vs : 
   counts-are = rw (events-count, clauses-count, keys-count, values-count, name-long, symbol-long)
 
   pub places-are : placesFor (draft s es cs a numbers codes ks vs) ≡ placesKept es a ks vs
-  unfolding placesFor draft
+  unfolding placesFor countsFor draft
   places-are = rw (events-count, clauses-count, keys-count, values-count, name-long, symbol-long, names-long, keys-long, values-long)
 
 -- ---- the table

@@ -7,12 +7,11 @@ use lib.ListN.{length, getD, drop}
 use Rattle.text.specs.Read.{Put}
 use Rattle.sheet.specs.Places.{clauseNumbers, eventNumbers}
 use Rattle.sheet.specs.declared.SheetAt.{SheetAt}
-use Rattle.table.specs.Layout.{tableLength, headLength, eventLength, clauseLength, wordLength}
+use Rattle.table.specs.Layout.{tableLength}
 use Rattle.table.specs.declared.Settings.{Settings}
 use Rattle.table.specs.declared.Counts.{Counts}
 use Rattle.table.specs.declared.Places.{Places}
-use Rattle.table.specs.declared.EventRow.{EventRow}
-use Rattle.table.specs.declared.ClauseRow.{ClauseRow}
+use Rattle.layout.specs.Build.{placesOf}
 use Rattle.layout.specs.Fits.{SettingsFit, EventFits, ClauseFits, WordFits}
 use Rattle.draft.specs.Draft.{Words, wordRow, clauseRow, eventRow, namesLength}
 
@@ -22,10 +21,6 @@ pub record PutOf (n : ℕ) (before after : List ℕ) (at : ℕ) (t : List ℕ) (
   pub near : r ≡ at + n
 
 -- ---- events
-
--- the row of an event whose numbers stand first in l, with its name at `at` of the names
-abbrev pub eventOf : List ℕ → ℕ → EventRow
-eventOf l at = record { kind = getD l 0 0; operate = getD l 1 0; at = at; len = getD l 3 0; first = getD l 4 0; count = getD l 5 0 }
 
 -- n events
 pub record EventsFit (es : List ℕ) (n : ℕ) : Type 0 where
@@ -38,10 +33,6 @@ pub record NamesFit (s es : List ℕ) (n : ℕ) : Type 0 where
   pub each : (i : ℕ) → i < n → getD (drop (eventNumbers * i) es) 2 0 + getD (drop (eventNumbers * i) es) 3 0 ≤ length s
 
 -- ---- clauses
-
--- the row of a clause whose numbers stand first in l, with its key and its values' codes
-abbrev pub clauseOf : List ℕ → ℕ → List ℕ → ClauseRow
-clauseOf l key v = record { kind = getD l 0 0; key = key; v1 = getD v 0 0; v2 = getD v 1 0; v3 = getD v 2 0; score = getD l 8 0 }
 
 pub record ClausesFit (cs numbers codes : List ℕ) (n : ℕ) : Type 0 where
   pub room : clauseNumbers * n ≤ length cs
@@ -75,26 +66,6 @@ settingsOf a = record { interval = a .interval; timeout = a .timeout; stop = a .
 abbrev pub countsOf : SheetAt → ℕ → ℕ → Counts
 countsOf a keys values =
     record { events = a .events; clauses = a .clauses; keys = keys; values = values; name = a .name - 2; symbol = a .symbol - (a .name + 1) }
-
--- "offsets follow each other": the places, by the counts and by how long the events' names, the keys and the values are
-abbrev pub placesOf : Counts → ℕ → ℕ → ℕ → Places
-placesOf c names keytexts valuetexts =
-    let clauses = headLength + eventLength * c .events in
-    let keys = clauses + clauseLength * c .clauses in
-    let values = keys + wordLength * c .keys in
-    let texts = values + wordLength * c .values in
-    let first = texts + c .name + c .symbol in
-    record {
-      events = headLength;
-      clauses = clauses;
-      keys = keys;
-      values = values;
-      texts = texts;
-      names = first;
-      keytexts = first + names;
-      valuetexts = first + names + keytexts;
-      used = first + names + keytexts + valuetexts;
-    }
 
 -- numbers that fit the header's fields, of a table that fits
 pub record HeadFits (a : SheetAt) (keys values names keytexts valuetexts : ℕ) : Type 0 where

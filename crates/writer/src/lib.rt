@@ -20,10 +20,10 @@ ghost use Rattle.le.specs.Field.{put16, put32};
 ghost use Rattle.text.specs.Read.{Part, Put};
 ghost use Rattle.sheet.specs.Places.{eventNumbers, clauseNumbers};
 ghost use Rattle.table.specs.Layout.{tableLength, headLength, eventLength, clauseLength, wordLength};
-ghost use Rattle.layout.specs.Build.{eventBytes, clauseBytes, wordBytes, rowBytes, settingsBytes, countsBytes, placesBytes, tableOf};
+ghost use Rattle.layout.specs.Build.{eventBytes, clauseBytes, wordBytes, rowBytes, settingsBytes, countsBytes, placesBytes, placesOf, tableOf};
 ghost use Rattle.layout.specs.Fits.{SettingsFit, EventFits, ClauseFits};
-ghost use Rattle.draft.specs.Draft.{wordRow, wordRows, clauseRows, eventRows, namesAt, namesLength, draft};
-ghost use Rattle.writer.specs.Fits.{PutOf, eventOf, clauseOf, EventsFit, NamesFit, ClausesFit, WordsFit, WordFit, settingsOf, countsOf, placesOf, HeadFits, TextsFit, TableFits};
+ghost use Rattle.draft.specs.Draft.{eventRowOf, clauseRowOf, wordRow, wordRows, clauseRows, eventRows, namesAt, namesLength, draft};
+ghost use Rattle.writer.specs.Fits.{PutOf, EventsFit, NamesFit, ClausesFit, WordsFit, WordFit, settingsOf, countsOf, HeadFits, TextsFit, TableFits};
 
 // How many bytes the header and each row have, as the header counts.
 const HEAD_LENGTH: u32 = table::HEAD_LENGTH as u32;
@@ -78,8 +78,8 @@ fn put_text(dst: &mut [u8], at: usize, src: &[u8], from: usize, to: usize) -> us
 // The row of the event whose numbers stand first in l, with its name at `at` of the names.
 fn event_row(l: &[usize], at: usize) -> EventRow
     requires { ⌜ eventNumbers ≤ length (now l) ⌝ }
-    requires { ⌜ EventFits (eventOf (now l) at) ⌝ }
-    ensures { λ r. ⌜ r ≡ eventOf (now (l .entry)) at ⌝ }
+    requires { ⌜ EventFits (eventRowOf (now l) at) ⌝ }
+    ensures { λ r. ⌜ r ≡ eventRowOf (now (l .entry)) at ⌝ }
 {
     EventRow {
         kind: l[0] as u16,
@@ -127,8 +127,8 @@ fn put_events(dst: &mut [u8], at: usize, es: &[usize], n: usize) -> usize
 fn clause_row(l: &[usize], key: usize, v: &[usize]) -> ClauseRow
     requires { ⌜ clauseNumbers ≤ length (now l) ⌝ }
     requires { ⌜ 3 ≤ length (now v) ⌝ }
-    requires { ⌜ ClauseFits (clauseOf (now l) key (now v)) ⌝ }
-    ensures { λ r. ⌜ r ≡ clauseOf (now (l .entry)) key (now (v .entry)) ⌝ }
+    requires { ⌜ ClauseFits (clauseRowOf (now l) key (now v)) ⌝ }
+    ensures { λ r. ⌜ r ≡ clauseRowOf (now (l .entry)) key (now (v .entry)) ⌝ }
 {
     ClauseRow {
         kind: l[0] as u16,
