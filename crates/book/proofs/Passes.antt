@@ -115,7 +115,7 @@ module _ (s : Sheet) (c : ℕ) (st : State) (sound : Sound s st) (room : Room s 
   named : (eqb (u8 (encode c st) 28) 0 || ltb (u32 (encode c st) 84) (length (s .events))) ≡ true
   named = rw (from-head c st) (named-passes c hs rs (st .head) (rest c st) s head-fits (sound .head))
 
-  pub full-passes : fullOk s c (encode c st) ≡ true
+  pub full-passes : fullOk (length (s .events)) c (encode c st) ≡ true
   unfolding fullOk
   full-passes =
       let n = length (s .events) in

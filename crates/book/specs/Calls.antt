@@ -9,6 +9,7 @@ use Rattle.le.specs.Le.{part, patch}
 use Rattle.le.specs.Field.{u32}
 use Rattle.text.specs.Answer.{Answer, Refused, Got, _>>=_, must, given}
 use Rattle.bar.specs.declared.Bar.{Bar}
+use Rattle.sheet.specs.Sheet.{Sheet}
 use Rattle.table.specs.Layout.{tableLength}
 use Rattle.table.specs.Table.{readTable}
 use Rattle.position.specs.Step.{Going, stepHead, settle, newHold}
@@ -23,6 +24,13 @@ sized table b = must 8 (eqb (length table) tableLength) >>= λ _. given 8 (capac
 -- "book or image not 96 + 64C .., the two unequal"
 abbrev pub sizedPair : List ℕ → List ℕ → List ℕ → Answer ℕ
 sizedPair table b image = sized table b >>= λ c. must 8 (eqb (length image) (length b)) >>= λ _. Got c
+
+-- 9, 10: the sheet of the table, where the bytes pass the full check
+unfoldable pub checked : List ℕ → ℕ → List ℕ → Answer Sheet
+checked table c b = do
+  s ← readTable table
+  _ ← must 10 (fullOk (length (s .events)) c b)
+  Got s
 
 -- "Fresh: 8."
 unfoldable pub freshDo : List ℕ → Answer (List ℕ)
@@ -66,14 +74,12 @@ feedBytes b (Got a) = a .after
 unfoldable pub saveDo : List ℕ → List ℕ → List ℕ → Answer (List ℕ)
 saveDo table b image = do
   c ← sizedPair table b image
-  s ← readTable table
-  _ ← must 10 (fullOk s c b)
+  _ ← checked table c b
   Got b
 
 -- "restoring copies an image back"; "on the image alone, restores the full one": the book at exit
 unfoldable pub restoreDo : List ℕ → List ℕ → List ℕ → Answer (List ℕ)
 restoreDo table b image = do
   c ← sizedPair table b image
-  s ← readTable table
-  _ ← must 10 (fullOk s c image)
+  _ ← checked table c image
   Got image

@@ -6,14 +6,13 @@ use lib.Dec.{leb, ltb, eqb}
 use lib.Signed.{leZ, ltZ}
 use lib.Ieee.{isNan}
 use lib.Ieee.Scale.{finite}
-use lib.ListN.{length, replicate}
+use lib.ListN.{replicate}
 use Rattle.le.specs.Le.{part}
 use Rattle.le.specs.Field.{u8, u32, i64, f64}
 use Rattle.text.specs.Text.{same}
 use Rattle.text.specs.Conditions.{allOf, every}
 use Rattle.operate.specs.Operate.{LO, SO}
 use Rattle.bar.specs.Bar.{lastId, timeOk}
-use Rattle.sheet.specs.Sheet.{Sheet}
 use Rattle.position.specs.State.{freshHead, trades}
 use Rattle.book.specs.Layout.{headBytes, timeAt, holdPlace, holdSlots, recordSlots}
 
@@ -107,9 +106,9 @@ rising [] = true
 rising (a ∷ []) = true
 rising (a ∷ b ∷ bs) = ltZ (i64 a 0) (i64 b 0) && rising (b ∷ bs)
 
-unfoldable pub fullOk : Sheet → ℕ → List ℕ → Bool
-fullOk s c b =
-    let n = length (s .events) in
+-- with n events in the table
+unfoldable pub fullOk : ℕ → ℕ → List ℕ → Bool
+fullOk n c b =
     allOf
     (headerOk c b
     ∷ (eqb (u8 b 28) 0 || ltb (u32 b 84) n)

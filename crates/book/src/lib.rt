@@ -1,1 +1,1 @@
-// The book: its bytes, its checks, and fresh, feed, save and restore. Definitions (specs/); no function yet.
+// The book: its bytes, its checks, and fresh, feed, save and restore. Definitions (specs/) and their laws; the crates above it have the code.

@@ -20,7 +20,7 @@ use Rattle.position.specs.Step.{Fed}
 use Rattle.position.specs.Feed.{Input, fedOf, admitted}
 use Rattle.book.specs.Layout.{capacity, headOf, freshBook}
 use Rattle.book.specs.Check.{headerOk}
-use Rattle.book.specs.Calls.{sized, freshDo, feedDo, saveDo, restoreDo}
+use Rattle.book.specs.Calls.{sized, checked, freshDo, feedDo, saveDo, restoreDo}
 
 -- ---- what the calls read
 
@@ -87,10 +87,14 @@ feed-fed t b i =
     (λ s. then-gives (must-gives 10 (headerOk c b) tt)
     (λ _. then-with (admitted-fed c (u32 b 0) (headOf b .end) i) (λ f e. gives (f, e)))))
 
+checked-gives : (t : List ℕ) (c : ℕ) (b : List ℕ) → Gives Any (checked t c b)
+unfolding checked
+checked-gives t c b = search (loud, table-gives)
+
 pub save-gives : (t b image : List ℕ) → Gives (λ x. x ≡ b) (saveDo t b image)
 unfolding saveDo
-save-gives t b image = search (loud, table-gives, gives)
+save-gives t b image = search (loud, checked-gives, gives)
 
 pub restore-gives : (t b image : List ℕ) → Gives (λ x. x ≡ image) (restoreDo t b image)
 unfolding restoreDo
-restore-gives t b image = search (loud, table-gives, gives)
+restore-gives t b image = search (loud, checked-gives, gives)

@@ -20,7 +20,7 @@ use Rattle.position.proofs.Sound.{Sound}
 use Rattle.position.proofs.Steps.{holds-count, records-few}
 use Rattle.book.specs.Layout.{capacity, encode}
 use Rattle.book.specs.Check.{fullOk}
-use Rattle.book.specs.Calls.{sized, saveDo, restoreDo}
+use Rattle.book.specs.Calls.{sized, checked, saveDo, restoreDo}
 use Rattle.book.proofs.Lengths.{capacity-is}
 use Rattle.book.proofs.Feeds.{feed-is}
 use Rattle.book.proofs.Parts.{holds-count as H-is, records-count as R-is}
@@ -40,23 +40,23 @@ module _ (table : List ℕ) (s : Sheet) (meant : readTable table ≡ Got s) wher
     sized-is : sized table (encode c st) ≡ Got c
     sized-is = rw (eq-eqb (length table) tableLength (table-length table s meant), bars-are)
 
-    passes : fullOk s c (encode c st) ≡ true
+    passes : fullOk (length (s .events)) c (encode c st) ≡ true
     passes = full-passes s c st sound room
 
     save-is : (image : List ℕ) → length image ≡ length (encode c st) → saveDo table (encode c st) image ≡ Got (encode c st)
-    unfolding saveDo
+    unfolding saveDo checked
     save-is image e = rw (sized-is, eq-eqb (length image) (length (encode c st)) e, meant, passes)
 
     pair-is : (i : ℤ) (buffer : List ℕ) → rowBuffer ≤ length buffer → pairDo table (encode c st) i buffer ≡ given 15 (rowAt (pairsOf s (st .records)) i)
-    unfolding pairDo
+    unfolding pairDo checked
     pair-is i buffer h = rw (sized-is, le-leb rowBuffer (length buffer) h, meant, passes, records-kept s c st sound room)
 
     hold-is : (i : ℤ) → holdDo table (encode c st) i ≡ given 15 (rowAt (holdRows (st .holds)) i)
-    unfolding holdDo
+    unfolding holdDo checked
     hold-is i = rw (sized-is, meant, passes, holds-kept s c st sound room)
 
     restore-is : (into : List ℕ) → length into ≡ length (encode c st) → restoreDo table into (encode c st) ≡ Got (encode c st)
-    unfolding restoreDo capacity
+    unfolding restoreDo checked capacity
     restore-is into e = rw (eq-eqb (length (encode c st)) (length into) (sym e), e, sized-is, meant, passes)
 
   -- ---- all that is claimed

@@ -19,7 +19,8 @@ use Rattle.sheet.specs.Sheet.{Event, Sheet}
 use Rattle.event.specs.Signals.{Line}
 use Rattle.event.specs.Match.{firstMatch}
 use Rattle.position.specs.State.{trades}
-use Rattle.position.specs.Step.{Choice, Going, choiceAt, choiceOf, choose, other, openOf, closeOf, posOf, on, lastOpen, allowed, mayClose, stopped, timedOut, write, openNow, arrive, openOrClose, closeOn, closing, going, stepHead}
+use Rattle.position.specs.Step.{Going, choiceAt, choiceOf, choose, other, openOf, closeOf, posOf, on, lastOpen, allowed, mayClose, stopped, timedOut, write, openNow, arrive, openOrClose, closeOn, closing, going, stepHead}
+use Rattle.position.specs.declared.Choice.{Choice}
 use Rattle.position.specs.declared.Pos.{Pos}
 use Rattle.position.specs.declared.Pos.the-variants.{Flat}
 use Rattle.position.specs.declared.Reference.{Reference}

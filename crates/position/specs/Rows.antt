@@ -23,6 +23,7 @@ use Rattle.position.specs.declared.Description.{Description}
 use Rattle.position.specs.declared.Description.the-variants.{Event as ByEvent, Stop, Timeout}
 use Rattle.position.specs.declared.Record.{Record}
 use Rattle.position.specs.declared.Hold.{Hold}
+use Rattle.position.specs.declared.HoldRow.{HoldRow}
 
 -- ---- the sequence text
 
@@ -112,15 +113,9 @@ pairsOf s (a ∷ b ∷ rs) = let later = pairsOf s (b ∷ rs) in cond (opens a) 
 
 -- ---- holds
 
-pub record HoldRow : Type 0 where
-  pub local : ℤ
-  pub pos : ℤ
-  pub price : Float
-  pub yield : Yield
-
 -- "Hold rows (`holds`) give local time, -1, 0 or 1, price, yield."
 unfoldable pub holdRow : Hold → HoldRow
-holdRow o = record { local = localOf (o .time); pos = posSign (o .pos); price = o .price; yield = o .n1b }
+holdRow o = record { local = record { 0 = localOf (o .time) }; pos = posSign (o .pos); price = o .price; n1b = o .n1b }
 
 unfoldable pub holdRows : List Hold → List HoldRow
 holdRows os = map holdRow os

@@ -18,7 +18,8 @@ use Rattle.sheet.specs.Sheet.{Sheet}
 use Rattle.sheet.specs.Read.{readSheet}
 use Rattle.position.specs.State.{State, freshState, posSign}
 use Rattle.position.specs.Feed.{Input, Accepted, feedState}
-use Rattle.position.specs.Rows.{Pair, pairsOf, HoldRow, holdRows}
+use Rattle.position.specs.Rows.{Pair, pairsOf, holdRows}
+use Rattle.position.specs.declared.HoldRow.{HoldRow}
 
 -- "from standard input of at most 65,536 bytes, C = 900"
 abbrev pub inputLimit : ℕ
@@ -122,7 +123,7 @@ pairLine p =
 
 -- "holds as H"
 unfoldable pub holdLine : HoldRow → List ℕ
-holdLine r = line (bytes "H" ∷ integerOf (r .local) ∷ integerOf (r .pos) ∷ hexBits (r .price) ∷ yieldText (r .yield) ∷ [])
+holdLine r = line (bytes "H" ∷ integerOf (r .local .0) ∷ integerOf (r .pos) ∷ hexBits (r .price) ∷ yieldText (r .n1b) ∷ [])
 
 -- the state after a feed: a refusal leaves it
 abbrev pub nextState : State → Answer (Accepted State) → State

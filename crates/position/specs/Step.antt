@@ -25,6 +25,7 @@ use Rattle.position.specs.declared.Pos.the-variants.{Short, Flat, Long}
 use Rattle.position.specs.declared.Open.{Open}
 use Rattle.position.specs.declared.Open.the-variants as Open
 use Rattle.position.specs.declared.LastEvent.{LastEvent}
+use Rattle.position.specs.declared.Choice.{Choice}
 use Rattle.position.specs.declared.Reference.{Reference}
 use Rattle.position.specs.declared.Reference.the-variants as Reference
 use Rattle.position.specs.declared.Head.{Head}
@@ -69,10 +70,6 @@ lastOpen Side.Short h = h .short
 -- ---- the event that a bar's signals choose
 
 -- "Choose an event: its operate and name; none gives HO." An event's name is had by its index.
-pub record Choice : Type 0 where
-  pub operate : ℕ
-  pub event : ℕ
-
 abbrev pub choiceAt : ℕ → Option Event → Choice
 choiceAt i none = record { operate = HO; event = 0 }
 choiceAt i (some e) = record { operate = e .operate; event = i }

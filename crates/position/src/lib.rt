@@ -1,6 +1,7 @@
 // A position: the values of the plain machine. What a bar does to them, the rows that they give and the run program's text are
-// definitions (specs/); no function yet.
+// definitions (specs/); the crate `machine` has the step in code.
 use bar::Bar;
+use bar::LocalTime;
 use bar::Time;
 use double::Yield;
 
@@ -27,6 +28,12 @@ pub struct LastEvent {
 pub enum Reference {
     Never,
     At(LastEvent),
+}
+
+// The event that a bar's signals choose: its operate, and its index, by which its name is had.
+pub struct Choice {
+    pub operate: u8,
+    pub event: u32,
 }
 
 // What a bar changes beside the lists of records and holds.
@@ -58,6 +65,14 @@ pub struct Record {
 pub struct Hold {
     pub time: Time,
     pub pos: Pos,
+    pub price: f64,
+    pub n1b: Yield,
+}
+
+// A hold as a row: its local time, -1, 0 or 1, its price and its yield.
+pub struct HoldRow {
+    pub local: LocalTime,
+    pub pos: i32,
     pub price: f64,
     pub n1b: Yield,
 }

@@ -13,7 +13,8 @@ use Rattle.double.specs.declared.Yield.{Yield}
 use Rattle.double.specs.declared.Yield.the-variants.{Absent, Bp}
 use Rattle.position.specs.State.{posSign}
 use Rattle.position.specs.Feed.{Accepted}
-use Rattle.position.specs.Rows.{Pair, HoldRow}
+use Rattle.position.specs.Rows.{Pair}
+use Rattle.position.specs.declared.HoldRow.{HoldRow}
 use Rattle.position.specs.declared.Decision.{Decision}
 use Rattle.position.specs.declared.Decision.the-variants.{Nothing, By}
 use Rattle.book.specs.Layout.{flag, yieldFlag, descriptionCode, descriptionEvent}
@@ -87,4 +88,4 @@ pairAnswer (Got p) =
 abbrev pub holdAnswer : Answer HoldRow → HoldAnswer
 holdAnswer (Refused n) = record { number = n; local = pos 0; pos = pos 0; price = whole 0; present = 0; bp = whole 0 }
 holdAnswer (Got r) =
-    record { number = 0; local = r .local; pos = r .pos; price = r .price; present = yieldFlag (r .yield); bp = yieldValue (r .yield) }
+    record { number = 0; local = r .local .0; pos = r .pos; price = r .price; present = yieldFlag (r .n1b); bp = yieldValue (r .n1b) }

@@ -41,7 +41,7 @@ pair-row : pairBytes (replicate 2048 7) (pairDo soy whole (pos 0) (replicate 204
 unfolding opened soy fed firstBar secondBar opening whole
 pair-row = refl
 
-hold-row : holdDo soy whole (pos 0) ≡ Got (record { local = pos 0; pos = pos 1; price = ofBits binary64 0x4059_0000_0000_0000; yield = Bp (ofBits binary64 0x40a3_8800_0000_0000) })
+hold-row : holdDo soy whole (pos 0) ≡ Got (record { local = record { 0 = pos 0 }; pos = pos 1; price = ofBits binary64 0x4059_0000_0000_0000; n1b = Bp (ofBits binary64 0x40a3_8800_0000_0000) })
 unfolding opened soy fed firstBar secondBar opening whole
 hold-row = refl
 

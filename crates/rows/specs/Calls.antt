@@ -10,10 +10,10 @@ use Rattle.text.specs.Answer.{Answer, Refused, Got, _>>=_, must, given}
 use Rattle.sheet.specs.Sheet.{nameLimit}
 use Rattle.table.specs.Layout.{tableLength}
 use Rattle.table.specs.Table.{readTable}
-use Rattle.position.specs.Rows.{Pair, pairsOf, HoldRow, holdRows}
+use Rattle.position.specs.Rows.{Pair, pairsOf, holdRows}
+use Rattle.position.specs.declared.HoldRow.{HoldRow}
 use Rattle.book.specs.Layout.{recordsOf, holdsOf}
-use Rattle.book.specs.Check.{fullOk}
-use Rattle.book.specs.Calls.{sized}
+use Rattle.book.specs.Calls.{sized, checked}
 
 -- "a row buffer of at least 2,048 bytes"
 abbrev pub rowBuffer : ℕ
@@ -29,8 +29,7 @@ unfoldable pub pairDo : List ℕ → List ℕ → ℤ → List ℕ → Answer Pa
 pairDo table b i buffer = do
   c ← sized table b
   _ ← must 8 (leb rowBuffer (length buffer))
-  s ← readTable table
-  _ ← must 10 (fullOk s c b)
+  s ← checked table c b
   given 15 (rowAt (pairsOf s (recordsOf c b)) i)
 
 -- "A pair's symbol, mark and sequence go one after another to the start of a row buffer .., their lengths returned and the later bytes kept."
@@ -44,8 +43,7 @@ pairBytes buffer (Got p) = patch buffer 0 (pairText p)
 unfoldable pub holdDo : List ℕ → List ℕ → ℤ → Answer HoldRow
 holdDo table b i = do
   c ← sized table b
-  s ← readTable table
-  _ ← must 10 (fullOk s c b)
+  _ ← checked table c b
   given 15 (rowAt (holdRows (holdsOf b)) i)
 
 -- An event's name by its index, so that a feed's decision can be read: 8 (table, or a buffer that may not hold a name), 9, 15.
