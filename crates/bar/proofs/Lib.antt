@@ -2,5 +2,6 @@
 pub mod Diff
 pub mod Steps
 pub mod Laws
+pub mod Ranges
 pub mod Examples
 pub mod Opened

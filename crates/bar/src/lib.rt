@@ -4,6 +4,13 @@ ghost use Prim.Native.Nat.{_<_, _^_};
 ghost use lib.Signed.{mag};
 ghost use Rattle.bar.specs.Time.{localTime, dayOf, secondsBetween};
 
+// The last id and instant of a bar, and the largest offset in either direction.
+pub const LAST_ID: u32 = 2_147_483_647;
+
+pub const LAST_INSTANT: i64 = 4_102_444_799_999_999;
+
+pub const LAST_OFFSET: i32 = 86_399;
+
 // Microseconds from 1970 UTC.
 pub struct Instant(pub i64);
 

@@ -84,7 +84,7 @@ length-encode c st h k =
 
 -- ---- capacity
 
-capacity-by : (b : List ℕ) (c : ℕ) → length b ≡ 96 + 64 * c → 1 ≤ c → c ≤ barLimit → capacity b ≡ some c
+pub capacity-by : (b : List ℕ) (c : ℕ) → length b ≡ 96 + 64 * c → 1 ≤ c → c ≤ barLimit → capacity b ≡ some c
 unfolding capacity
 capacity-by b c e l h = rw (e, back, eq-eqb (96 + 64 * c) (96 + 64 * c) refl, le-leb 1 c l, le-leb c barLimit h) refl
   where

@@ -5,10 +5,22 @@ ghost use mathlib.Core.Path.{_≡_};
 ghost use mathlib.Core.Bool.{_||_};
 ghost use mathlib.Core.List.{[]};
 ghost use Prim.Native.Nat.{_<_};
+ghost use lib.Dec.{eqb};
 ghost use lib.ListN.{getD};
 ghost use Rattle.text.specs.Text.{same};
-ghost use Rattle.operate.specs.Operate.{latin as Operate·latin, chinese as Operate·chinese, known, operateOf, operateAlone};
+ghost use Rattle.operate.specs.Operate.{LO as Operate·LO, SO as Operate·SO, latin as Operate·latin, chinese as Operate·chinese, known, operateOf, operateAlone};
 ghost use Rattle.operate.specs.Read.{codeOf, readOf, aloneOf, Name};
+
+// The codes of the operates that the machine names.
+pub const HO: u8 = 2;
+
+pub const LO: u8 = 3;
+
+pub const LE: u8 = 4;
+
+pub const SO: u8 = 5;
+
+pub const SE: u8 = 6;
 
 pub enum Operate {
     HL,
@@ -33,6 +45,16 @@ pub enum OperateAlone {
     NotUtf8,
     Marked,
     Unnamed,
+}
+
+// Whether a code is LO or SO.
+pub fn is_opening(code: u8) -> bool
+    ensures { λ r. ⌜ r ≡ (eqb code Operate·LO || eqb code Operate·SO) ⌝ }
+{
+    if code == LO {
+        return true;
+    }
+    code == SO
 }
 
 // The two letters of a code.

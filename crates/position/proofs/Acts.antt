@@ -13,6 +13,7 @@ use Rattle.operate.specs.Operate.{LO, SO}
 use Rattle.bar.specs.declared.Bar.{Bar}
 use Rattle.sheet.specs.Sheet.{Sheet}
 use Rattle.position.specs.Step.{Going, openOf, closeOf, on, lastOpen, mayClose, stopped, timedOut, write, openNow, arrive, openOrClose, opening, closeOn, closing, going}
+use Rattle.position.specs.declared.Pos.the-variants.{Flat}
 use Rattle.position.specs.declared.Choice.{Choice}
 use Rattle.position.specs.declared.Reference.{Reference}
 use Rattle.position.specs.declared.Reference.the-variants as Reference
@@ -26,6 +27,10 @@ own b c = Reference.At (record { bar = b; operate = c .operate; event = c .event
 now-reference : (side : Side) (b : Bar) (g : Going) → openNow side b g .head .reference ≡ g .head .reference
 now-reference Side.Long b g = refl
 now-reference Side.Short b g = refl
+
+flat-off : (side : Side) → on side Flat ≡ false
+flat-off Side.Long = refl
+flat-off Side.Short = refl
 
 open-no-close : (side other : Side) → eqb (openOf side) (closeOf other) ≡ false
 open-no-close Side.Long Side.Long = refl
@@ -41,6 +46,11 @@ module _ (s : Sheet) (b : Bar) (c : Choice) where
   opening-other : (side : Side) (g : Going) → eqb (c .operate) (openOf side) ≡ false → opening s b c side g ≡ g
   unfolding opening
   opening-other side g e = rw e refl
+
+  -- Flat has no side to close
+  pub closing-flat : (side : Side) (g : Going) → g .head .pos ≡ Flat → closing s b c side g ≡ g
+  unfolding closing
+  closing-flat side g e = rw (e, flat-off side) refl
 
   -- ---- an LO or SO: the bar is its own reference, against which nothing closes
 

@@ -29,7 +29,7 @@ use Rattle.position.specs.declared.Head.{Head}
 use Rattle.position.specs.declared.Description.{Description}
 use Rattle.position.specs.declared.Description.the-variants.{Event as ByEvent, Stop, Timeout}
 use Rattle.position.specs.declared.Record.{Record}
-use Rattle.position.proofs.Acts.{going-opens, going-closes}
+use Rattle.position.proofs.Acts.{closing-flat, going-opens, going-closes}
 
 -- ---- what a bar writes
 
@@ -81,10 +81,6 @@ open-trades Side.Short = refl
 close-trades : (side : Side) → trades (closeOf side) ≡ true
 close-trades Side.Long = refl
 close-trades Side.Short = refl
-
-flat-off : (side : Side) → on side Flat ≡ false
-flat-off Side.Long = refl
-flat-off Side.Short = refl
 
 now-wrote : (side : Side) (b : Bar) (g : Going) → openNow side b g .wrote ≡ g .wrote
 now-wrote Side.Long b g = refl
@@ -150,15 +146,11 @@ module _ (s : Sheet) (b : Bar) (c : Choice) (known : trades (c .operate) ≡ tru
           both (Calm s b) (stopped s side b r) _ _ (close-calm s b side Stop g q tt)
           (both (Calm s b) (timedOut s b r) _ g (close-calm s b side Timeout g q tt) (inl q))
 
-  closing-flat : (side : Side) (g : Going) → g .head .pos ≡ Flat → closing s b c side g ≡ g
-  unfolding closing
-  closing-flat side g e = rw (e, flat-off side) refl
-
   closing-calm : (side : Side) (g : Going) → Calm s b g → Calm s b (closing s b c side g)
   unfolding closing
   closing-calm side g (inl q) =
       both (Calm s b) (on side (g .head .pos) && mayClose s b (lastOpen side (g .head))) _ g (closeOn-calm side (g .head .reference) g q) (inl q)
-  closing-calm side g (inr h) = subst (Calm s b) (sym (closing-flat side g (h .1))) (inr h)
+  closing-calm side g (inr h) = subst (Calm s b) (sym (closing-flat s b c side g (h .1))) (inr h)
 
   -- ---- the whole step
 

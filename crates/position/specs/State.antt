@@ -1,14 +1,16 @@
 -- The state of the plain machine. "State: pos (fresh: Flat), changed (fresh: no), end, last long open, last short open, reference, records, holds."
 -- Assumes nothing.
 use Prim.Native.Nat.{ℕ}
-use mathlib.Core.Bool.{Bool, false, _||_}
+use mathlib.Core.Bool.{Bool, true, false, _||_}
 use mathlib.Core.List.{List, []}
 use lib.Dec.{eqb}
 use lib.IntN.{ℤ, pos, negsuc}
 use Rattle.operate.specs.Operate.{LO, LE, SO, SE}
+use Rattle.bar.specs.Bar.{timeOk}
 use Rattle.bar.specs.declared.Time.{Time}
 use Rattle.position.specs.declared.Pos.{Pos}
 use Rattle.position.specs.declared.Pos.the-variants.{Short, Flat, Long}
+use Rattle.position.specs.declared.Open.{Open}
 use Rattle.position.specs.declared.Open.the-variants as Open
 use Rattle.position.specs.declared.Reference.the-variants as Reference
 use Rattle.position.specs.declared.Head.{Head}
@@ -29,6 +31,11 @@ freshHead = record { pos = Flat; changed = false; end = noTime; long = Open.Neve
 
 unfoldable pub freshState : State
 freshState = record { head = freshHead; records = []; holds = [] }
+
+-- a stored open's time is in range
+abbrev pub openInRange : Open → Bool
+openInRange Open.Never = true
+openInRange (Open.At t) = timeOk t
 
 -- "(0 Short, 1 Flat, 2 Long)"
 abbrev pub posCode : Pos → ℕ

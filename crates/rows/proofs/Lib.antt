@@ -1,3 +1,4 @@
--- Case *1's rows, and the opener of definitions.
+-- Rows by their index, case *1's rows, and the opener of definitions.
+pub mod Index
 pub mod Opened
 pub mod Examples

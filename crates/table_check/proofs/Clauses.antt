@@ -19,7 +19,7 @@ use Rattle.table_check.specs.declared.Used.{Used}
 use Rattle.table_check.specs.declared.Used.the-variants.{Seen, Skip}
 use Rattle.table_check.specs.declared.Step.{Step}
 use Rattle.table_check.specs.declared.Step.the-variants.{On, Stop}
-use Rattle.table_check.proofs.Conditions.{broken, decided}
+use Rattle.text.proofs.Tested.{broken, decided}
 use Rattle.table_check.proofs.Walks.{rows-more, rows-end}
 
 -- ---- uses

@@ -18,7 +18,7 @@ use Rattle.table.proofs.Spans.{follow-past}
 use Rattle.table_check.specs.Check.{eventRows, eventAsked, eventStep}
 use Rattle.table_check.specs.declared.Step.{Step}
 use Rattle.table_check.specs.declared.Step.the-variants.{On, Stop}
-use Rattle.table_check.proofs.Conditions.{broken, decided}
+use Rattle.text.proofs.Tested.{broken, decided}
 use Rattle.table_check.proofs.Walks.{rows-more, rows-end, part-lent}
 
 -- events whose names start at f and whose clauses start at g

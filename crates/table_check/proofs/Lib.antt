@@ -1,5 +1,4 @@
 -- The laws of the table check.
-pub mod Conditions
 pub mod Heads
 pub mod Walks
 pub mod Events

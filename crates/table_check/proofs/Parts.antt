@@ -16,7 +16,7 @@ use Rattle.table.specs.declared.Counts.{Counts}
 use Rattle.table.specs.declared.Places.{Places}
 use Rattle.table.proofs.Heads.{headed, clauses-many, keys-many, values-many}
 use Rattle.table_check.specs.Check.{eventRows, clauseRows, wordRows, titlesOk, rowsOk, vocabularyOk}
-use Rattle.table_check.proofs.Conditions.{broken, decided}
+use Rattle.text.proofs.Tested.{broken, decided}
 
 -- ---- the header
 

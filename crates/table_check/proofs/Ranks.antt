@@ -15,7 +15,7 @@ use Rattle.table.specs.Layout.{wordLength, wordIn, wordText}
 use Rattle.table.specs.Read.{WordAt}
 use Rattle.table.specs.declared.WordRow.{WordRow}
 use Rattle.table_check.specs.Check.{wordAt, wordRows, textsOf, ordersOf, ranksOf, rankAsked, ranksFrom}
-use Rattle.table_check.proofs.Conditions.{broken, decided}
+use Rattle.text.proofs.Tested.{broken, decided}
 use Rattle.table_check.proofs.Walks.{rows-more, rows-end, map-at}
 
 -- ---- words by their numbers

@@ -18,7 +18,7 @@ use Rattle.table.specs.Table.{wordsOk}
 use Rattle.table.specs.declared.WordRow.{WordRow}
 use Rattle.table.proofs.Spans.{follow-within}
 use Rattle.table_check.specs.Check.{wordAt, wordRows, textsOf, ordersOf, ranksOf, laid, ranksFrom, Inside}
-use Rattle.table_check.proofs.Conditions.{broken}
+use Rattle.text.proofs.Tested.{broken}
 use Rattle.table_check.proofs.Ranks.{orders-many, order-at}
 
 module _ (l texts : List ℕ) (n limit : ℕ) where

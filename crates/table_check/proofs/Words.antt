@@ -15,7 +15,7 @@ use Rattle.table.specs.Read.{WordAt}
 use Rattle.table.specs.declared.WordRow.{WordRow}
 use Rattle.table.proofs.Spans.{follow-past}
 use Rattle.table_check.specs.Check.{wordRows, textsOf, wordAsked, laid}
-use Rattle.table_check.proofs.Conditions.{broken}
+use Rattle.text.proofs.Tested.{broken}
 use Rattle.table_check.proofs.Walks.{rows-more, rows-end, part-lent}
 
 -- a text as it is lent

@@ -4,11 +4,13 @@ pub mod Refusals
 pub mod Laws
 pub mod Same
 pub mod Conditions
+pub mod Tested
 pub mod Every
 pub mod Parts
 pub mod Lines
 pub mod Digits
 pub mod Put
+pub mod Zeros
 pub mod Written
 pub mod Hex
 mod Examples

@@ -4,7 +4,7 @@
 ghost use mathlib.Core.Path.{_≡_};
 ghost use mathlib.Core.List.{[], _∷_};
 ghost use Prim.Native.Nat.{_+_, _-_, _^_, _<_, _≤_};
-ghost use lib.ListN.{length};
+ghost use lib.ListN.{length, replicate};
 ghost use lib.Seq.{slice};
 ghost use Rattle.text.specs.Text.{same, has, split};
 ghost use Rattle.text.specs.Number.{natural, atMost, plus, minus, digitsTo, i32Of, decimalOf, hexDigit, hexOf, hexValue, bitsOf};
@@ -167,6 +167,17 @@ pub fn read_i32(s: &[u8], from: usize, to: usize) -> Int
         return positive(magnitude(s, from + 1, to, 0x7fff_ffff));
     }
     positive(magnitude(s, from, to, 0x7fff_ffff))
+}
+
+// Fills dst with zeros.
+pub fn clear(dst: &mut [u8])
+    ensures { λ _. ⌜ now (dst .exit) ≡ replicate (length (now (dst .entry))) 0 ⌝ }
+{
+    let mut i = 0;
+    while i < dst.len() {
+        dst[i] = 0;
+        i += 1;
+    }
 }
 
 // Writes the byte b to dst at `at`, and answers the place behind it.

@@ -2,7 +2,6 @@
 mod Joined
 mod Rows
 mod Names
-mod Zeros
 mod Table
 pub mod Asked
 mod Examples

@@ -10,10 +10,11 @@ use table::EventRow;
 use table::Places;
 use table::Settings;
 use table::WordRow;
+use text::clear;
 ghost use mathlib.Core.Path.{_≡_};
 ghost use mathlib.Core.List.{_++_};
 ghost use Prim.Native.Nat.{_+_, _-_, _*_, _<_, _≤_};
-ghost use lib.ListN.{length, getD, replicate};
+ghost use lib.ListN.{length, getD};
 ghost use lib.Seq.{slice};
 ghost use Rattle.le.specs.Le.{part};
 ghost use Rattle.le.specs.Field.{put16, put32};
@@ -36,17 +37,6 @@ const WORD_LENGTH: u32 = table::WORD_LENGTH as u32;
 
 // How many codes of values a clause has.
 const CLAUSE_CODES: usize = 3;
-
-// Fills dst with zeros.
-fn clear(dst: &mut [u8])
-    ensures { λ _. ⌜ now (dst .exit) ≡ replicate (length (now (dst .entry))) 0 ⌝ }
-{
-    let mut i = 0;
-    while i < dst.len() {
-        dst[i] = 0;
-        i += 1;
-    }
-}
 
 // Writes v in two bytes.
 fn put_two(dst: &mut [u8], at: usize, v: u16) -> usize

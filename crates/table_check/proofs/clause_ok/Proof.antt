@@ -1,5 +1,5 @@
 -- `table_check::clause_ok` meets its contract. Assumes nothing.
-use Rattle.table_check.proofs.Conditions.{broken, decided}
+use Rattle.text.proofs.Tested.{broken, decided}
 use Rattle.table.specs.Table.{clauseOk}
 use Rattle.text.proofs.Conditions.{_also_, none-left}
 use borrow.Author.Tests.{le-leb, lt-leb, lt-ltb, le-ltb, not-true, not-false}

@@ -1,6 +1,6 @@
 -- `table_check::event_ok` meets its contract. Assumes nothing.
 use Rattle.table_check.proofs.Events.{name-lent}
-use Rattle.table_check.proofs.Conditions.{broken, decided}
+use Rattle.text.proofs.Tested.{broken, decided}
 use Rattle.table.specs.Table.{eventOk}
 use Rattle.words.specs.Words.{clean}
 use Rattle.text.proofs.Conditions.{_also_, none-left}

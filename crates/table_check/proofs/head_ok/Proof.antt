@@ -1,6 +1,6 @@
 -- `table_check::head_ok` meets its contract. Assumes nothing.
 use Rattle.table_check.proofs.Heads.{few}
-use Rattle.table_check.proofs.Conditions.{broken, decided}
+use Rattle.text.proofs.Tested.{broken, decided}
 use Rattle.table.specs.Table.{settingsOk, countsOk, placesOk, headOk}
 use Rattle.text.proofs.Conditions.{_also_, none-left}
 use borrow.Author.Tests.{eq-eqb, ne-eqb, not-true, not-false}

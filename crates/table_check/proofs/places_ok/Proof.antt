@@ -1,6 +1,6 @@
 -- `table_check::places_ok` meets its contract. Assumes nothing.
 use Rattle.table_check.proofs.Heads.{behind-both}
-use Rattle.table_check.proofs.Conditions.{broken, decided}
+use Rattle.text.proofs.Tested.{broken, decided}
 use Rattle.table.specs.Table.{placesOk}
 use Rattle.text.proofs.Conditions.{_also_, none-left}
 use borrow.Author.Tests.{eq-eqb, ne-eqb, le-leb, lt-leb, not-true, not-false}

@@ -1,5 +1,5 @@
 -- `table_check::settings_ok` meets its contract. Assumes nothing.
-use Rattle.table_check.proofs.Conditions.{broken, decided}
+use Rattle.text.proofs.Tested.{broken, decided}
 use Rattle.table.specs.Table.{settingsOk}
 use Rattle.text.proofs.Conditions.{_also_, none-left}
 use borrow.Author.Tests.{le-leb, lt-leb}

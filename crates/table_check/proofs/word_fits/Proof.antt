@@ -1,6 +1,6 @@
 -- `table_check::word_fits` meets its contract. Assumes nothing.
 use Rattle.table_check.proofs.Words.{text-lent}
-use Rattle.table_check.proofs.Conditions.{broken, decided}
+use Rattle.text.proofs.Tested.{broken, decided}
 use Rattle.words.specs.Words.{wordOk}
 use Rattle.text.proofs.Conditions.{_also_, none-left}
 use borrow.Author.Tests.{eq-eqb, ne-eqb, le-leb, lt-leb}

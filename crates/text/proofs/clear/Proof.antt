@@ -1,10 +1,10 @@
--- `writer::clear` meets its contract: `Clearing`, the zeros that stand, is the invariant. Assumes nothing.
+-- `text::clear` meets its contract: `Clearing`, the zeros that stand, is the invariant. Assumes nothing.
 use Prim.Native.Nat.{_-_}
 use lib.ListN.{length}
 use borrow.Author.Needs.{needs}
-use Rattle.writer.proofs.Zeros.{Clearing, clearing-first, clearing-more, clearing-last}
-use Rattle.writer.proofs.clear.Statement.{statement}
-use Rattle.writer.proofs.clear.Tie as tie
+use Rattle.text.proofs.Zeros.{Clearing, clearing-first, clearing-more, clearing-last}
+use Rattle.text.proofs.clear.Statement.{statement}
+use Rattle.text.proofs.clear.Tie as tie
 
 abbrev Inv-loop : tie.InvT-loop
 Inv-loop dst₀ i₀ dst i = Clearing dst₀ dst i
