@@ -1,0 +1,2 @@
+-- Laws of a book's fields.
+pub mod Laws
