@@ -1,0 +1,3 @@
+-- The laws of the full check.
+pub mod Walk
+pub mod Full

@@ -1,0 +1,3 @@
+-- The laws of the checks of a hold and of a record.
+pub mod ZeroBytes
+pub mod Presence
