@@ -1,0 +1,2 @@
+-- The laws of fresh, save and restore.
+pub mod Answers
