@@ -1,0 +1,2 @@
+-- The definitions that the contracts of `admit` cite.
+pub mod Bars
