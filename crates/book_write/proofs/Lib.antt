@@ -1,0 +1,2 @@
+-- The laws of writing a bar.
+pub mod Written

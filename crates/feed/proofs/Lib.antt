@@ -1,0 +1,3 @@
+-- The laws of a feed.
+pub mod Refusals
+pub mod Steps

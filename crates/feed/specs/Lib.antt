@@ -1,0 +1,3 @@
+-- The definitions that the contracts of `feed` cite.
+pub mod Feed
+pub mod Steps
