@@ -1,0 +1,2 @@
+-- The definitions that the contracts of `titles` cite.
+pub mod Read
