@@ -1,0 +1,3 @@
+-- The laws of hold rows.
+pub mod Row
+pub mod Asked
