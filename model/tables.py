@@ -235,12 +235,11 @@ def shown(sh):
     return sh.name, sh.symbol, sh.interval, sh.timeout, sh.stop, sh.t0, events
 
 
-def main():
-    script = Script()
+def main(script):
     for line in sys.stdin.buffer.read().split(b"\n")[:-1]:
         out = None if line[:1] == b"#" else script.answer(line)
         sys.stdout.buffer.write(line + (b"" if out is None else b" = " + out.encode()) + b"\n")
 
 
 if __name__ == "__main__":
-    main()
+    main(Script())

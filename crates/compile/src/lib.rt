@@ -12,7 +12,7 @@ ghost use lib.ListN.{length};
 ghost use Rattle.sheet.specs.Places.{sheetAt};
 ghost use Rattle.table.specs.Layout.{tableLength};
 ghost use Rattle.table.specs.Compile.{Means};
-ghost use Rattle.compile.specs.Outcome.{CompiledAs};
+ghost use Rattle.compile.specs.Outcome.{numberOf, CompiledAs};
 ghost use Rattle.compile.specs.Steps.{SheetDone, KeysDone};
 
 // What compiling answers: done, or why the text or the table is refused.
@@ -26,6 +26,25 @@ pub enum Outcome {
     UnknownOperate,
     NotSeven,
     BadScore,
+}
+
+impl Outcome {
+    // The number of the answer.
+    pub fn number(self) -> u32
+        ensures { λ r. ⌜ r ≡ numberOf self ⌝ }
+    {
+        match self {
+            Outcome::Done => 0,
+            Outcome::NotUtf8 => 1,
+            Outcome::Malformed => 2,
+            Outcome::BadNumber => 3,
+            Outcome::UnknownOperate => 4,
+            Outcome::NotSeven => 5,
+            Outcome::BadScore => 6,
+            Outcome::PastLimit => 7,
+            Outcome::WrongLength => 8,
+        }
+    }
 }
 
 // Notes the values of a sheet whose keys are noted, and writes the table.

@@ -41,9 +41,32 @@ pub fn number(s: &[u8]) -> u64 {
     or_zero(text::decimal(s, 0, s.len(), 18))
 }
 
+// A place in bytes, in digits.
+pub fn place(s: &[u8]) -> usize {
+    number(s) as usize
+}
+
 // 16 hexadecimal digits.
 pub fn bits(s: &[u8]) -> u64 {
     or_zero(text::read_hex(s, 0, s.len()))
+}
+
+// An i64: up to 18 digits, perhaps behind `-`, or `x` and the 16 hexadecimal digits of its bits.
+pub fn signed(s: &[u8]) -> i64 {
+    if s.len() == 0 {
+        return 0;
+    }
+    match s[0] {
+        b'-' => {
+            let n = number(&s[1..]);
+            if n == 0 {
+                return 0;
+            }
+            le::to_i64(18446744073709551615 - n + 1)
+        }
+        b'x' => le::to_i64(bits(&s[1..])),
+        _ => le::to_i64(number(s)),
+    }
 }
 
 // The double of 16 hexadecimal digits.

@@ -29,6 +29,14 @@ pub fn number(n: u64) {
     io::print_decimal(STDOUT_FILENO, n);
 }
 
+// A place, behind a space unless it is the first one.
+pub fn place(at: usize, first: bool) {
+    if !first {
+        text(b" ");
+    }
+    number(at as u64);
+}
+
 // In plain decimal, behind a minus where it is negative.
 pub fn signed(z: i64) {
     let b = le::of_i64(z);

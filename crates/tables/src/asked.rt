@@ -1,5 +1,4 @@
 // What is asked of a table by its meaning: whether its bytes are one, compiling a sheet into it, and which event a bar's signals choose.
-use compile::Outcome;
 use compile::compile;
 use console::ask;
 use console::ask::field;
@@ -24,14 +23,6 @@ pub fn accepted(table: &[u8]) {
     }
 }
 
-// Shows a place, behind a space unless it is the first one.
-fn place(at: usize, first: bool) {
-    if !first {
-        show::text(b" ");
-    }
-    show::number(at as u64);
-}
-
 // Whether the bytes are a table where the one at `at` is changed. They are left as they were.
 fn stands(table: &mut [u8], at: usize, mask: u8) -> bool {
     if table.len() <= at {
@@ -46,36 +37,22 @@ fn stands(table: &mut [u8], at: usize, mask: u8) -> bool {
 // `F|mask|from|to`: each byte in turn is changed in the bits of the mask; the places where the bytes then still are a table.
 pub fn changed(s: &[u8], table: &mut [u8]) {
     let mask = (ask::number(field(s, 1)) % 256) as u8;
-    let mut at = ask::number(field(s, 2)) as usize;
-    let to = ask::number(field(s, 3)) as usize;
+    let mut at = ask::place(field(s, 2));
+    let to = ask::place(field(s, 3));
     let mut first = true;
     while at < to {
         if stands(table, at, mask) {
-            place(at, first);
+            show::place(at, first);
             first = false;
         }
         at += 1;
     }
 }
 
-// The number of what compiling answers.
-fn number(o: Outcome) -> u64 {
-    match o {
-        Outcome::Done => 0,
-        Outcome::NotUtf8 => 1,
-        Outcome::Malformed => 2,
-        Outcome::BadNumber => 3,
-        Outcome::UnknownOperate => 4,
-        Outcome::NotSeven => 5,
-        Outcome::BadScore => 6,
-        Outcome::PastLimit => 7,
-        Outcome::WrongLength => 8,
-    }
-}
-
 // `C`: compiles the sheet s; the number, and the fingerprint of the table's bytes.
 pub fn compiled(s: &[u8], table: &mut [u8]) {
-    show::number(number(compile(s, table)));
+    let r = compile(s, table);
+    show::number(r.number() as u64);
     next();
     show::number(fingerprint(table, 0, table.len()));
 }

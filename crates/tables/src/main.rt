@@ -13,9 +13,11 @@
 //
 // `C` and `M` empty the text.
 mod asked;
-mod build;
-mod raw;
 
+use console::ask;
+use console::ask::field;
+use console::build;
+use console::raw;
 use console::show;
 use libc::STDIN_FILENO;
 use text::LF;
@@ -33,8 +35,8 @@ fn asks(tag: u8) -> bool {
 fn inspect(tag: u8, s: &[u8], table: &mut [u8]) {
     match tag {
         b'F' => asked::changed(s, table),
-        b'H' => raw::dump(s, table),
-        b'P' => raw::change(s, table),
+        b'H' => raw::dump(table, ask::place(field(s, 1)), ask::place(field(s, 2))),
+        b'P' => raw::change(table, ask::place(field(s, 1)), field(s, 2)),
         b'T' => asked::accepted(table),
         _ => return,
     }

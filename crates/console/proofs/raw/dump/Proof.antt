@@ -1,15 +1,15 @@
--- `tables::raw::dump` is safe and ends. Assumes nothing.
+-- `console::raw::dump` is safe and ends. Assumes nothing.
 use borrow.Author.Needs.{needs}
 use Prim.Native.Nat.{_≤_, _-_}
 use lib.ListN.{length}
-use Rattle.tables.proofs.raw.dump.Statement.{statement}
-use Rattle.tables.proofs.raw.dump.Tie as tie
+use Rattle.console.proofs.raw.dump.Statement.{statement}
+use Rattle.console.proofs.raw.dump.Tie as tie
 
 abbrev Inv-loop : tie.InvT-loop
-Inv-loop s table at₀ to at = to ≤ length table
+Inv-loop b from to at₀ at = to ≤ length b
 
 abbrev μ-loop : tie.MeasureT-loop
-μ-loop s table at₀ to at = to - at
+μ-loop b from to at₀ at = to - at
 
 pub dump-spec : {M : Type 1} → statement M
 dump-spec =
@@ -17,10 +17,6 @@ dump-spec =
     (tie.spec
     Inv-loop
     μ-loop
-    (λ c κs. search needs)
-    (λ c κs. search needs)
-    (λ c κs. search needs)
-    (λ c κs. search needs)
     (λ c. search needs)
     (λ c. search needs)
     (λ c. search needs)

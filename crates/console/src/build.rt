@@ -1,6 +1,6 @@
 // Building a text in a buffer of which `used` bytes are taken. Each function adds what has room, and answers how many are taken then.
-use console::ask;
-use console::ask::field;
+use crate::ask;
+use crate::ask::field;
 use text::LF;
 use text::PIPE;
 use text::find;

@@ -1,10 +1,10 @@
--- `tables::build::copied` is safe and ends. Assumes nothing.
+-- `console::build::many` is safe and ends. Assumes nothing.
 use borrow.Author.Needs.{needs}
 use Prim.Native.Nat.{_-_}
 use lib.ListN.{length}
 use mathlib.Core.Path.{_≡_}
-use Rattle.tables.proofs.build.copied.Statement.{statement}
-use Rattle.tables.proofs.build.copied.Tie as tie
+use Rattle.console.proofs.build.many.Statement.{statement}
+use Rattle.console.proofs.build.many.Tie as tie
 
 abbrev Inv-loop : tie.InvT-loop
 Inv-loop s count out₀ used n₀ i₀ out n i = length out ≡ length out₀
@@ -12,8 +12,8 @@ Inv-loop s count out₀ used n₀ i₀ out n i = length out ≡ length out₀
 abbrev μ-loop : tie.MeasureT-loop
 μ-loop s count out₀ used n₀ i₀ out n i = count - i
 
-pub copied-spec : {M : Type 1} → statement M
-copied-spec =
+pub many-spec : {M : Type 1} → statement M
+many-spec =
     tie.close
     (tie.spec
     Inv-loop

@@ -1,10 +1,10 @@
--- `tables::build::numbered` is safe and ends. Assumes nothing.
+-- `console::build::numbered` is safe and ends. Assumes nothing.
 use borrow.Author.Needs.{needs}
 use Prim.Native.Nat.{_-_}
 use lib.ListN.{length}
 use mathlib.Core.Path.{_≡_}
-use Rattle.tables.proofs.build.numbered.Statement.{statement}
-use Rattle.tables.proofs.build.numbered.Tie as tie
+use Rattle.console.proofs.build.numbered.Statement.{statement}
+use Rattle.console.proofs.build.numbered.Tie as tie
 
 abbrev Inv-loop : tie.InvT-loop
 Inv-loop s number out₀ used n₀ i₀ out n i = length out ≡ length out₀

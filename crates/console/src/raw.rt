@@ -1,0 +1,23 @@
+// Bytes that are changed and shown, whatever they mean.
+use crate::ask;
+use le::wide;
+use libc::STDOUT_FILENO;
+
+// The bytes that `hex` writes in hexadecimal take the place of those from `at` on.
+pub fn change(b: &mut [u8], at: usize, hex: &[u8]) {
+    if at < b.len() {
+        ask::pairs(hex, &mut b[at..]);
+    }
+}
+
+// The bytes in from..to in hexadecimal.
+pub fn dump(b: &[u8], from: usize, to: usize) {
+    if b.len() < to {
+        return;
+    }
+    let mut at = from;
+    while at < to {
+        io::print_hex(STDOUT_FILENO, wide(b[at]) as u64, 2);
+        at += 1;
+    }
+}
