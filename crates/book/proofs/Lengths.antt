@@ -31,7 +31,7 @@ pub head-length : (c hs rs : ℕ) (h : Head) → length (headBytes c hs rs h) �
 unfolding headBytes leBytes
 head-length c hs rs h = omega (arith, reference-length (h .reference))
 
-yield-length : (y : Yield) → length (yieldBytes y) ≡ 8
+pub yield-length : (y : Yield) → length (yieldBytes y) ≡ 8
 unfolding leBytes
 yield-length Absent = refl
 yield-length (Bp x) = refl

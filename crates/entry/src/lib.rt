@@ -110,7 +110,7 @@ pub fn record_at(o: &[u8]) -> Record
 }
 
 // The code of a description.
-fn description_code(d: Description) -> u8
+pub fn description_code(d: Description) -> u8
     ensures { λ r. ⌜ r ≡ descriptionCode d ⌝ }
 {
     match d {
@@ -121,7 +121,7 @@ fn description_code(d: Description) -> u8
 }
 
 // The event of a description, by its index: 0 for a stop or a timeout.
-fn description_event(d: Description) -> u32
+pub fn description_event(d: Description) -> u32
     ensures { λ r. ⌜ r ≡ descriptionEvent d ⌝ }
 {
     match d {

@@ -14,7 +14,7 @@ ghost use lib.ListN.{length};
 ghost use Rattle.le.specs.Le.{patch};
 ghost use Rattle.le.specs.Field.{f64};
 ghost use Rattle.bar.specs.Bar.{instantOk, offsetOk, timeOk, localOf};
-ghost use Rattle.position.specs.State.{posCode};
+ghost use Rattle.position.specs.State.{posCode, posSign};
 ghost use Rattle.book.specs.Layout.{timeBytes, timeAt, posAt};
 
 // The least offset.
@@ -83,6 +83,17 @@ pub fn pos_code(p: Pos) -> u8
         Pos::Short => 0,
         Pos::Flat => 1,
         Pos::Long => 2,
+    }
+}
+
+// A position as -1, 0 or 1.
+pub fn pos_sign(p: Pos) -> i32
+    ensures { λ r. ⌜ r ≡ posSign p ⌝ }
+{
+    match p {
+        Pos::Short => -1,
+        Pos::Flat => 0,
+        Pos::Long => 1,
     }
 }
 

@@ -5,17 +5,16 @@ use book_check::Checked;
 use book_check::check_book;
 use entry::hold_at;
 use field::local_of;
+use field::pos_sign;
 use header::Sized;
 use header::size_of;
 use le::get_u32;
 use position::Hold;
 use position::HoldRow;
-use position::Pos;
 ghost use mathlib.Core.Path.{_≡_};
 ghost use mathlib.Core.Bool.{true};
 ghost use Rattle.text.specs.Answer.{given, number};
 ghost use Rattle.bar.specs.Bar.{timeOk};
-ghost use Rattle.position.specs.State.{posSign};
 ghost use Rattle.position.specs.Rows.{holdRow, holdRows};
 ghost use Rattle.book.specs.Layout.{holdsOf};
 ghost use Rattle.rows.specs.Calls.{rowAt, holdDo};
@@ -46,17 +45,6 @@ impl HoldRead {
     }
 }
 
-// A position as -1, 0 or 1.
-fn sign(p: Pos) -> i32
-    ensures { λ r. ⌜ r ≡ posSign p ⌝ }
-{
-    match p {
-        Pos::Short => -1,
-        Pos::Flat => 0,
-        Pos::Long => 1,
-    }
-}
-
 // The row of a hold.
 fn row_of(o: Hold) -> HoldRow
     requires { ⌜ timeOk (o .time) ≡ true ⌝ }
@@ -67,7 +55,7 @@ fn row_of(o: Hold) -> HoldRow
     let n1b = o.n1b;
     HoldRow {
         local: local_of(t),
-        pos: sign(pos),
+        pos: pos_sign(pos),
         price: o.price,
         n1b,
     }

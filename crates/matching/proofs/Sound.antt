@@ -192,7 +192,7 @@ value-plain t ok v h =
 abbrev noClause : ClauseRow
 noClause = record { kind = 0; key = 0; v1 = 0; v2 = 0; v3 = 0; score = 0 }
 
-abbrev noEvent : EventRow
+abbrev pub noEvent : EventRow
 noEvent = record { kind = 0; operate = 0; at = 0; len = 0; first = 0; count = 0 }
 
 module _ (t : List ℕ) (ok : isTable t ≡ true) where
@@ -211,10 +211,13 @@ module _ (t : List ℕ) (ok : isTable t ≡ true) where
   clause-fine : (i : ℕ) → i < countsIn t .clauses → ClauseIn t (getD (partsIn t .clauses) i noClause)
   clause-fine i h = every-below (clauseOk (countsIn t .keys) (countsIn t .values)) noClause (partsIn t .clauses) clauses-fine i (omega (arith, clauses-many t))
 
+  event-checked : (i : ℕ) → i < countsIn t .events → eventOk (partsIn t .names) (getD (partsIn t .events) i noEvent) ≡ true
+  event-checked i h = every-below (eventOk (partsIn t .names)) noEvent (partsIn t .events) events-fine i (omega (arith, events-many t))
+
   event-fine : (i : ℕ) → i < countsIn t .events → EventIn t (getD (partsIn t .events) i noEvent)
   unfolding eventOk
   event-fine i h = record {
-    kind = leb-true _ _ (fact _ (every-below (eventOk (partsIn t .names)) noEvent (partsIn t .events) events-fine i (omega (arith, events-many t))) 0);
+    kind = leb-true _ _ (fact _ (event-checked i h) 0);
     clauses = follow-within (λ e. e .first) (λ e. e .count) noEvent 0 (countsIn t .clauses) (partsIn t .events) spans-fine i (omega (arith, events-many t));
   }
 
@@ -239,9 +242,13 @@ module _ {t : List ℕ} {p : Places} (a : Accepted t p) where
     event-room = rw f (omega (arith, events-size a))
 
     module _ {e : EventRow} (r : EventAt l i e) where
-      event-is : getD (partsIn t .events) i noEvent ≡ e
+      pub event-is : getD (partsIn t .events) i noEvent ≡ e
       unfolding partsIn
       event-is = rw (← a .places) (rows-at eventIn eventLength (countsIn t .events) (between t (p .events) (p .clauses)) i noEvent h ∙ rw (← f) (sym (r .is)))
+
+      -- what the check asks of an event
+      pub event-ok : eventOk (partsIn t .names) e ≡ true
+      event-ok = subst (λ x. eventOk (partsIn t .names) x ≡ true) event-is (event-checked t (a .table) i h)
 
       pub event-in : EventIn t e
       event-in = subst (EventIn t) event-is (event-fine t (a .table) i h)

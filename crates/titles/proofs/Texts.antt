@@ -5,16 +5,14 @@ use mathlib.Core.Path.{_≡_, _∙_, refl, sym, ap, subst}
 use mathlib.Core.Bool.{true}
 use mathlib.Core.List.{List}
 use borrow.Author.Tests.{leb-true}
-use lib.ListN.{length, getD, take, drop}
+use lib.ListN.{length, take, drop}
 use lib.Seq.{drop-drop}
 use Rattle.le.specs.Le.{part}
-use Rattle.list.proofs.Laws.{rows-at}
 use Rattle.list.proofs.Elements.{next-at}
 use Rattle.text.proofs.Conditions.{fact}
-use Rattle.text.proofs.Every.{every-below}
 use Rattle.text.proofs.Laws.{part-size, part-take}
 use Rattle.sheet.specs.Sheet.{nameLimit}
-use Rattle.table.specs.Layout.{eventLength, countsIn, placesIn, eventIn, between, partsIn, eventText}
+use Rattle.table.specs.Layout.{countsIn, placesIn, between, partsIn, eventText}
 use Rattle.table.specs.Table.{eventOk, eventsOk, partsOk, isTable, eventOf, sheetOf}
 use Rattle.table.specs.Read.{EventAt, Headed}
 use Rattle.table.specs.declared.Counts.{Counts}
@@ -24,7 +22,7 @@ use Rattle.table.proofs.Facts.{table-facts}
 use Rattle.table.proofs.Heads.{headed, lent, between-length, events-many}
 use Rattle.table.proofs.Spans.{follow-within}
 use Rattle.position.specs.Rows.{nameIn, eventName}
-use Rattle.matching.proofs.Sound.{Accepted, event-next}
+use Rattle.matching.proofs.Sound.{Accepted, event-next, noEvent, event-is, event-ok}
 
 -- the bytes from..to of t, as they are lent, are the text, which is no longer than a name may be
 abbrev Lent : List ℕ → ℕ → ℕ → List ℕ → Type 0
@@ -68,17 +66,13 @@ module _ {t : List ℕ} {p : Places} (a : Accepted t p) {i : ℕ} (h : i < count
   many : i < length (partsIn t .events)
   many = omega (arith, events-many t)
 
-  row-is : getD (partsIn t .events) i e ≡ e
-  unfolding partsIn
-  row-is = rw (← a .places) (rows-at eventIn eventLength (countsIn t .events) (between t (p .events) (p .clauses)) i e h ∙ sym (r .is))
-
   short : e .len ≤ nameLimit
-  unfolding partsOk eventsOk eventOk
-  short = subst (λ x. x .len ≤ nameLimit) row-is (leb-true _ _ (fact _ (every-below (eventOk (partsIn t .names)) e (partsIn t .events) (fact _ (fact _ (table-facts t (a .table) .1) 2) 0) i many) 2))
+  unfolding eventOk
+  short = leb-true _ _ (fact _ (event-ok a refl h r) 2)
 
   within : e .at + e .len ≤ length (partsIn t .names)
   unfolding partsOk eventsOk
-  within = subst (λ x. x .at + x .len ≤ length (partsIn t .names)) row-is (follow-within (λ x. x .at) (λ x. x .len) e 0 (length (partsIn t .names)) (partsIn t .events) (fact _ (fact _ (table-facts t (a .table) .1) 2) 1) i many)
+  within = subst (λ x. x .at + x .len ≤ length (partsIn t .names)) (event-is a refl h r) (follow-within (λ x. x .at) (λ x. x .len) noEvent 0 (length (partsIn t .names)) (partsIn t .events) (fact _ (fact _ (table-facts t (a .table) .1) 2) 1) i many)
 
   names-room : (p .names ≤ p .keytexts) × (p .keytexts ≤ length t)
   names-room =

@@ -1,3 +1,4 @@
+-- `compile::compile` meets its contract: the sheet is read, then the table is written. Assumes nothing.
 use mathlib.Core.Path.{refl}
 use borrow.Author.Needs.{needs}
 use Rattle.compile.specs.declared.Outcome.the-variants.{PastLimit, NotUtf8, Malformed, BadNumber, UnknownOperate, NotSeven, BadScore}

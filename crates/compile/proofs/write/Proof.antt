@@ -1,3 +1,4 @@
+-- `compile::write` meets its contract: the keys are noted first. Assumes nothing.
 use Prim.Native.Nat.{ℕ, _*_}
 use native.Mathlib.Omega.{arith}
 use lib.ListN.{length-replicate}

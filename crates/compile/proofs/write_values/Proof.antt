@@ -1,3 +1,4 @@
+-- `compile::write_values` meets its contract: with the values noted too, the table is written. Assumes nothing.
 use Prim.Native.Nat.{ℕ, _*_}
 use native.Mathlib.Omega.{arith}
 use lib.ListN.{length-replicate}

@@ -8,7 +8,7 @@ use Rattle.position.specs.State.{posCode}
 use Rattle.book.specs.Layout.{yieldFlag, yieldBytes, holdBytes}
 use Rattle.field.proofs.Laws.{time-length, put-first, put-next, not-nan}
 use borrow.Author.Needs.{needs}
-use Rattle.entry.proofs.Laws.{yield-length}
+use Rattle.book.proofs.Lengths.{yield-length}
 use Rattle.entry.proofs.put_hold.Statement.{statement}
 use Rattle.entry.proofs.put_hold.Tie as tie
 
@@ -28,7 +28,7 @@ returns c =
     let w1 = put-first 12 (d1 .put-time .ensures) (time-length (o .time)) (omega arith) in
     let w2 = put-next 4 (posCode (o .pos) ∷ yieldFlag (o .n1b) ∷ 0 ∷ 0 ∷ []) w1 four refl refl (omega arith) in
     let w3 = put-next 8 (putF64 (o .price)) w2 (d3 .put-f64 .ensures) (length-leBytes 8 _) (omega arith) (omega arith) in
-    put-next 8 (yieldBytes (o .n1b)) w3 (c .before .before .put-yield .ensures) (yield-length o) (omega arith) (omega arith) .written
+    put-next 8 (yieldBytes (o .n1b)) w3 (c .before .before .put-yield .ensures) (yield-length (o .n1b)) (omega arith) (omega arith) .written
 
 pub put-hold-spec : {M : Type 1} → statement M
 put-hold-spec =

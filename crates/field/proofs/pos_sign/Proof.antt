@@ -1,7 +1,7 @@
 -- A number for each position. Assumes nothing.
 use borrow.Author.Needs.{needs}
-use Rattle.holds.proofs.sign.Statement.{statement}
-use Rattle.holds.proofs.sign.Tie as tie
+use Rattle.field.proofs.pos_sign.Statement.{statement}
+use Rattle.field.proofs.pos_sign.Tie as tie
 
 returns : tie.Need-returns
 returns c = rw (c .enum-told .given .1)
@@ -12,6 +12,6 @@ returns-2 c = rw (c .enum-told2 .given .1)
 returns-3 : tie.Need-returns-3
 returns-3 c = rw (c .enum-told3 .given .1)
 
-pub sign-spec : {M : Type 1} → statement M
-sign-spec =
+pub pos-sign-spec : {M : Type 1} → statement M
+pos-sign-spec =
     tie.close (tie.spec (λ c. search needs) (λ c. search needs) (λ c. search needs) returns returns-2 returns-3)
