@@ -16,16 +16,15 @@
 //   #              a comment
 //
 // A call's answer begins with its number and ends with a fingerprint of the bytes that it may change. `C` and `B` empty the text.
-mod asked;
-mod calls;
-mod checks;
-
 use console::ask;
 use console::ask::field;
 use console::build;
 use console::raw;
 use console::show;
 use libc::STDIN_FILENO;
+use questions::asked;
+use questions::calls;
+use questions::checks;
 use text::LF;
 use text::find;
 ghost use Prim.Native.Nat.{_<_};

@@ -3,11 +3,13 @@ use mathlib.Core.Path.{_≡_, refl}
 use lib.IntN.{pos}
 use lib.Ieee.{binary64, ofBits}
 use lib.ListN.{replicate}
+use Rattle.text.specs.Answer.{Got, _>>=_}
 use Rattle.table.proofs.Examples.{soy}
 use Rattle.book.specs.Layout.{freshBook}
 use Rattle.rows.specs.Calls.{pairDo, holdDo}
 use Rattle.rows.proofs.Opened.{opened}
 use Rattle.rows.proofs.Examples.{fed, firstBar, secondBar, opening, whole}
+use Rattle.pairs.specs.Read.{pairRow}
 use Rattle.position_book.specs.Rows.{feedAnswer, pairAnswer, holdAnswer}
 
 -- long, changed, by event 0; then flat, changed, by event 1
@@ -21,7 +23,7 @@ late : feedAnswer (firstBar opening) ≡ record { number = 13; pos = pos 0; chan
 unfolding opened soy fed firstBar opening
 late = refl
 
-pair : pairAnswer (pairDo soy whole (pos 0) (replicate 2048 7))
+pair : pairAnswer (pairDo soy whole (pos 0) (replicate 2048 7) >>= λ p. Got (pairRow p))
     ≡ record {
       number = 0;
       side = pos 1;

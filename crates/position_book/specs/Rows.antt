@@ -4,7 +4,6 @@ use Prim.Native.Nat.{ℕ}
 use mathlib.Core.List.{List}
 use lib.IntN.{ℤ, pos, negsuc}
 use lib.Ieee.{Float}
-use lib.ListN.{length}
 use Rattle.text.specs.Answer.{Answer, Refused, Got}
 use Rattle.double.specs.Double.{whole}
 use Rattle.double.specs.declared.Side.{Side}
@@ -13,11 +12,11 @@ use Rattle.double.specs.declared.Yield.{Yield}
 use Rattle.double.specs.declared.Yield.the-variants.{Absent, Bp}
 use Rattle.position.specs.State.{posSign}
 use Rattle.position.specs.Feed.{Accepted}
-use Rattle.position.specs.Rows.{Pair}
 use Rattle.position.specs.declared.HoldRow.{HoldRow}
 use Rattle.position.specs.declared.Decision.{Decision}
 use Rattle.position.specs.declared.Decision.the-variants.{Nothing, By}
 use Rattle.book.specs.Layout.{flag, yieldFlag, descriptionCode, descriptionEvent}
+use Rattle.pairs.specs.declared.PairRow.{PairRow}
 use Rattle.position_book.specs.declared.FeedAnswer.{FeedAnswer}
 use Rattle.position_book.specs.declared.PairAnswer.{PairAnswer}
 use Rattle.position_book.specs.declared.HoldAnswer.{HoldAnswer}
@@ -51,7 +50,7 @@ abbrev pub sideSign : Side → ℤ
 sideSign Long = pos 1
 sideSign Short = negsuc 0
 
-abbrev pub pairAnswer : Answer Pair → PairAnswer
+abbrev pub pairAnswer : Answer PairRow → PairAnswer
 pairAnswer (Refused n) =
     record {
       number = n;
@@ -72,17 +71,17 @@ pairAnswer (Got p) =
     record {
       number = 0;
       side = sideSign (p .side);
-      opened = p .openLocal;
-      closed = p .closeLocal;
-      from = p .openPrice;
-      to = p .closePrice;
+      opened = p .opened .0;
+      closed = p .closed .0;
+      from = p .from;
+      to = p .to;
       ids = p .ids;
       days = p .days;
-      present = yieldFlag (p .yield);
-      bp = yieldValue (p .yield);
-      symbol = length (p .symbol);
-      mark = length (p .mark);
-      sequence = length (p .sequence);
+      present = yieldFlag (p .bp);
+      bp = yieldValue (p .bp);
+      symbol = p .symbol;
+      mark = p .mark;
+      sequence = p .sequence;
     }
 
 abbrev pub holdAnswer : Answer HoldRow → HoldAnswer

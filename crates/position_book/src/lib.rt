@@ -12,6 +12,8 @@ ghost use Rattle.signal.specs.Read.{SignalOk};
 ghost use Rattle.position_book.specs.Calls.{signalDo, signalAnswer, signalBytes, operateAnswer, nameDo, nameAnswer, nameBytes};
 ghost use Rattle.position_book.specs.Read.{SignalPut};
 
+pub mod answers;
+
 // What a signal alone says: its score, and the lengths of its key and its three values.
 #[repr(C)]
 pub struct SignalAnswer {

@@ -1,10 +1,10 @@
--- `books::checks::changed` is safe and ends. Assumes nothing.
+-- `questions::checks::changed` is safe and ends. Assumes nothing.
 use borrow.Author.Needs.{needs}
 use Prim.Native.Nat.{_-_}
 use lib.ListN.{length}
 use mathlib.Core.Path.{_≡_}
-use Rattle.books.proofs.checks.changed.Statement.{statement}
-use Rattle.books.proofs.checks.changed.Tie as tie
+use Rattle.questions.proofs.checks.changed.Statement.{statement}
+use Rattle.questions.proofs.checks.changed.Tie as tie
 
 abbrev Inv-loop : tie.InvT-loop
 Inv-loop full s table book₀ image₀ mask at₀ to first₀ book image at first = (length book ≡ length book₀) × (length image ≡ length image₀)
