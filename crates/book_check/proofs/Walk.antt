@@ -13,10 +13,10 @@ use lib.Seq.{take-take}
 use borrow.Author.Tests.{ne-eqb}
 use Rattle.le.specs.Le.{part}
 use Rattle.le.specs.Field.{i64}
+use Rattle.le.proofs.Laws.{part-lent}
 use Rattle.text.specs.Conditions.{allOf, every}
 use Rattle.book.specs.Layout.{slots}
 use Rattle.book.specs.Check.{rising}
-use Rattle.table_check.proofs.Walks.{part-lent}
 use Rattle.book_check.specs.Walk.{orderly, risen}
 
 -- a slot's instant is that of the bytes where it is

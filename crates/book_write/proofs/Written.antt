@@ -11,6 +11,7 @@ use lib.Ieee.Scale.{finite}
 use lib.ListN.{length, take, drop}
 use Rattle.le.specs.Le.{part, patch}
 use Rattle.le.specs.Field.{u32}
+use Rattle.le.proofs.Laws.{part-lent}
 use Rattle.text.proofs.Put.{patch-none}
 use Rattle.double.specs.Double.{holdYield, yieldOk}
 use Rattle.double.proofs.Numbers.{hold-number}
@@ -57,10 +58,7 @@ module _ (b : List ℕ) (bar : Bar) {hs : ℕ} (counted : hs ≡ u32 b 0) where
 
   module _ {o : Hold} (read : o ≡ holdOf (take (96 + 32 * (hs - 1) + 32 - (96 + 32 * (hs - 1))) (drop (96 + 32 * (hs - 1)) b))) where
     last-is : o ≡ holdOf (part b (holdPlace (u32 b 0 - 1)) 32)
-    unfolding part
-    last-is =
-        let e : 96 + 32 * (hs - 1) + 32 - (96 + 32 * (hs - 1)) ≡ 32 = omega arith in
-        rw (← counted) (rw e at read)
+    last-is = rw (← counted) (read ∙ ap holdOf (part-lent b (holdPlace (hs - 1)) 32))
 
     pub last-priced : {c : ℕ} → BookPassed b c → hs ≢ 0 → finite (o .price) ≡ true
     unfolding holdOf

@@ -4,11 +4,12 @@ use native.Mathlib.Omega.{arith}
 use mathlib.Core.Bool.{true}
 use mathlib.Core.List.{List}
 use mathlib.Core.Logic.{_≢_}
-use mathlib.Core.Path.{_≡_}
+use mathlib.Core.Path.{_≡_, _∙_}
 use lib.ListN.{take, drop}
 use borrow.Author.Tests.{leb-true}
 use Rattle.le.specs.Le.{part}
 use Rattle.le.specs.Field.{u32}
+use Rattle.le.proofs.Laws.{part-lent}
 use Rattle.text.proofs.Conditions.{fact}
 use Rattle.book.specs.Layout.{holdPlace}
 use Rattle.book.specs.Check.{countsOk}
@@ -24,7 +25,4 @@ used {b} {c} {hs} z e h k =
 
 -- as it is lent
 pub slot : {b : List ℕ} {hs : ℕ} → Used b hs → take (96 + 32 * (hs - 1) + 32 - (96 + 32 * (hs - 1))) (drop (96 + 32 * (hs - 1)) b) ≡ part b (holdPlace (u32 b 0 - 1)) 32
-unfolding part
-slot {b} {hs} h =
-    let e : 96 + 32 * (hs - 1) + 32 - (96 + 32 * (hs - 1)) ≡ 32 = omega arith in
-    rw (e, h .counted)
+slot {b} {hs} h = part-lent b (holdPlace (hs - 1)) 32 ∙ rw (h .counted)

@@ -9,6 +9,7 @@ use lib.IntN.{ℤ}
 use lib.ListN.{take, drop, getElem?, length-map}
 use Rattle.le.specs.Le.{part}
 use Rattle.le.specs.Field.{u32}
+use Rattle.le.proofs.Laws.{part-lent}
 use Rattle.text.specs.Answer.{Answer, Refused, _>>=_, given}
 use Rattle.text.proofs.Answers.{refused-then, got-then}
 use Rattle.text.proofs.Conditions.{fact}
@@ -56,10 +57,7 @@ row-none b k l =
 -- the hold as it is read from the part that is lent
 module _ {b : List ℕ} (h : Held b) (k : ℕ) (l : k < u32 b 0) {o : Hold} (e : o ≡ holdOf (take (holdPlace k + 32 - holdPlace k) (drop (holdPlace k) b))) where
   read-is : o ≡ holdOf (part b (holdPlace k) 32)
-  unfolding part
-  read-is =
-      let n : holdPlace k + 32 - holdPlace k ≡ 32 = omega arith in
-      e ∙ ap (λ (n : ℕ). holdOf (take n (drop (holdPlace k) b))) n
+  read-is = e ∙ ap holdOf (part-lent b (holdPlace k) 32)
 
   pub read-time : timeOk (o .time) ≡ true
   unfolding holdOk holdSlots holdOf

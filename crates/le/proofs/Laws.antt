@@ -184,3 +184,10 @@ patch-all l bs e = ap (λ (r : List ℕ). bs ++ r) (drop-of-length-le l {i = 0 +
 pub part-all : (l : List ℕ) (n : ℕ) → length l ≡ n → part l 0 n ≡ l
 unfolding part
 part-all l n e = take-all n l (omega arith)
+
+-- n bytes from `at` on, as they are lent
+pub part-lent : (l : List ℕ) (at n : ℕ) → take (at + n - at) (drop at l) ≡ part l at n
+unfolding part
+part-lent l at n =
+    let k : at + n - at ≡ n = omega arith in
+    rw k

@@ -7,7 +7,7 @@ use mathlib.Core.List.{List, [], _∷_, map}
 use borrow.Author.Tests.{leb-true}
 use lib.ListN.{length, getD, take, drop, length-map}
 use lib.Seq.{drop-cons}
-use Rattle.le.specs.Le.{part}
+use Rattle.le.proofs.Laws.{part-lent}
 use Rattle.list.specs.Numbered.{rows}
 use Rattle.list.proofs.Laws.{rows-length, rows-at}
 use Rattle.text.specs.Conditions.{every}
@@ -82,10 +82,8 @@ module _ {l : List ℕ} {i : ℕ} {w : WordRow} (r : WordAt l i w) where
 
   -- the text as it is lent
   pub text-lent : (texts : List ℕ) → take (w .at + w .len - w .at) (drop (w .at) texts) ≡ textOf l texts i
-  unfolding wordText part
-  text-lent texts =
-      let e : w .at + w .len - w .at ≡ w .len = omega arith in
-      rw (e, ← r .is)
+  unfolding wordText
+  text-lent texts = part-lent texts (w .at) (w .len) ∙ rw (← r .is)
 
 -- a value is not the wildcard
 wild-word : wordOk valueParts wildcard ≡ false

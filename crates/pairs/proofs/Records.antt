@@ -8,6 +8,7 @@ use borrow.Author.Tests.{ltb-true}
 use lib.ListN.{length, take, drop}
 use Rattle.le.specs.Le.{part}
 use Rattle.le.specs.Field.{u8, u32}
+use Rattle.le.proofs.Laws.{part-lent}
 use Rattle.text.proofs.Conditions.{fact}
 use Rattle.position.specs.declared.Record.{Record}
 use Rattle.book.specs.Layout.{recordPlace, recordOf, recordSlots, descriptionAt}
@@ -48,7 +49,4 @@ module _ {n c : ℕ} {b : List ℕ} (h : Traded n c b) (j : ℕ) (l : j < u32 b 
 
 -- record number j, read from the part at p that is lent
 pub record-lent : (c : ℕ) (b : List ℕ) (j p : ℕ) {r : Record} → p ≡ recordPlace c j → r ≡ recordOf (take (p + 32 - p) (drop p b)) → r ≡ recordAt c b j
-unfolding part
-record-lent c b j p e f =
-    let n : p + 32 - p ≡ 32 = omega arith in
-    f ∙ ap (λ (k : ℕ). recordOf (take k (drop p b))) n ∙ ap (λ (q : ℕ). recordOf (take 32 (drop q b))) e
+record-lent c b j p e f = f ∙ ap recordOf (part-lent b p 32) ∙ ap (λ (q : ℕ). recordOf (part b q 32)) e

@@ -4,10 +4,10 @@ use native.Mathlib.Omega.{arith}
 use mathlib.Core.Path.{_≡_, _∙_}
 use mathlib.Core.List.{List, _++_}
 use lib.ListN.{length}
-use lib.Seq.{slice, take-length}
+use lib.Seq.{slice}
 use Rattle.text.specs.Literal.{bytes}
 use Rattle.text.specs.Read.{Put}
-use Rattle.text.proofs.Put.{put-put}
+use Rattle.text.proofs.Put.{put-put, put-whole}
 use Rattle.sheet.specs.Sheet.{Sheet, nameLimit}
 use Rattle.position.specs.Rows.{sequenceOf, pairOf}
 use Rattle.position.specs.declared.Record.{Record}
@@ -16,17 +16,13 @@ use Rattle.pairs.specs.Read.{pairRow}
 use Rattle.pairs.specs.Row.{rowOf, PairPut}
 use Rattle.pairs.specs.declared.PairRow.{PairRow}
 
--- the whole of a text
-whole : (x : List ℕ) {l m : List ℕ} {at r : ℕ} → Put l m at (slice 0 (length x) x) r → Put l m at x r
-whole x p = rw (take-length x) at p
-
 -- behind one text, and behind two, there is room for the next
 module _ (x y : List ℕ) {before l : List ℕ} {n : ℕ} (hx : length x ≤ nameLimit) (hy : length y ≤ nameLimit) (room : rowBuffer ≤ length before) (p : Put before l 0 (slice 0 (length x) x) n) where
   pub mark-room : n + (length y - 0) ≤ length l
-  mark-room = omega (arith, whole x p .end, p .kept)
+  mark-room = omega (arith, put-whole x p .end, p .kept)
 
   pub sequence-room : {k : List ℕ} {m : ℕ} → Put l k n (slice 0 (length y) y) m → m + 1024 ≤ length k
-  sequence-room q = omega (arith, whole x p .end, p .kept, whole y q .end, q .kept)
+  sequence-room q = omega (arith, put-whole x p .end, p .kept, put-whole y q .end, q .kept)
 
 module _ (s : Sheet) (a z : Record) where
   row-of : (n m k : ℕ) → n ≡ length (s .symbol) → m ≡ length (s .name) → k ≡ length (sequenceOf s a ++ bytes " -> " ++ sequenceOf s z)
@@ -42,8 +38,8 @@ module _ (s : Sheet) (a z : Record) where
       → PairPut (pairOf s a z) before after r
   unfolding pairOf
   pair-put {x} {y} {before} {l} {k} {after} {n} {m} {end} {r} ex ey p q t e =
-      let px : Put before l 0 (s .symbol) n = rw ex at (whole x p) in
-      let qy : Put l k n (s .name) m = rw ey at (whole y q) in
+      let px : Put before l 0 (s .symbol) n = rw ex at (put-whole x p) in
+      let qy : Put l k n (s .name) m = rw ey at (put-whole y q) in
       record {
         is = e ∙ row-of n (m - n) (end - m) (omega (arith, px .end)) (omega (arith, qy .end)) (omega (arith, t .end));
         bytes = put-put (put-put px qy) t .written;

@@ -12,7 +12,7 @@ use lib.Seq.{slice, take-length}
 use Rattle.text.specs.Literal.{bytes, encoded}
 use Rattle.text.specs.Number.{decimalOf}
 use Rattle.text.specs.Read.{Put}
-use Rattle.text.proofs.Put.{put-put}
+use Rattle.text.proofs.Put.{put-put, put-whole}
 use Rattle.text.proofs.Written.{length-decimal}
 use Rattle.operate.specs.Operate.{chinese, LE, SE}
 use Rattle.operate.specs.Read.{Name}
@@ -53,6 +53,6 @@ pub closing-put : (operate v : ℕ) (unit : List ℕ) {a b c d e : List ℕ} {at
     → Put d e r (slice 0 (length unit) unit) end → PartPut a e at (closeName operate ++ bytes "@" ++ decimalOf v ++ unit) end
 unfolding bytes encoded
 closing-put operate v unit h k w x y z = record {
-  put = put-put (put-put (put-put w x) y) (rw (take-length unit) at z);
+  put = put-put (put-put (put-put w x) y) (put-whole unit z);
   short = omega (arith, closing-length operate v unit h k);
 }

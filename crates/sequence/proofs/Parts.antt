@@ -6,12 +6,12 @@ use mathlib.Core.Bool.{true, false, or-true}
 use mathlib.Core.List.{List, [], _∷_, _++_}
 use lib.Dec.{eqb}
 use lib.ListN.{length, length-append}
-use lib.Seq.{slice, take-length}
+use lib.Seq.{slice}
 use Rattle.text.specs.Literal.{bytes, encoded}
 use Rattle.text.specs.Text.{has}
 use Rattle.text.specs.Number.{decimalOf}
 use Rattle.text.specs.Read.{Put}
-use Rattle.text.proofs.Put.{put-put}
+use Rattle.text.proofs.Put.{put-put, put-whole}
 use Rattle.sheet.specs.Sheet.{Sheet, nameLimit}
 use Rattle.position.specs.Rows.{eventName, closeName, eventTag, sequencePart, sequenceOf}
 use Rattle.position.specs.declared.Description.the-variants.{Event, Stop, Timeout}
@@ -27,7 +27,7 @@ part-as e p = rw (← e) p
 
 module _ (d : List ℕ) {a b : List ℕ} {at p : ℕ} (h : length d ≤ nameLimit) (w : Put a b at (slice 0 (length d) d) p) where
   whole : Put a b at d p
-  whole = rw (take-length d) at w
+  whole = put-whole d w
 
   pub name-end : p ≤ at + nameLimit
   name-end = omega (arith, whole .end)

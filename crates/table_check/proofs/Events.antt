@@ -8,6 +8,7 @@ use mathlib.Core.Path.{_≡_, refl, sym, _∙_}
 use lib.Dec.{leb, eqb}
 use lib.ListN.{length, getD, take, drop}
 use borrow.Author.Tests.{eq-eqb, ne-eqb, eqb-true, leb-false}
+use Rattle.le.proofs.Laws.{part-lent}
 use Rattle.text.specs.Conditions.{allOf, every}
 use Rattle.text.proofs.Conditions.{Each, _also_, none-left, sure}
 use Rattle.table.specs.Layout.{eventLength, eventIn, eventText}
@@ -19,7 +20,7 @@ use Rattle.table_check.specs.Check.{eventRows, eventAsked, eventStep}
 use Rattle.table_check.specs.declared.Step.{Step}
 use Rattle.table_check.specs.declared.Step.the-variants.{On, Stop}
 use Rattle.text.proofs.Tested.{broken, decided}
-use Rattle.table_check.proofs.Walks.{rows-more, rows-end, part-lent}
+use Rattle.table_check.proofs.Walks.{rows-more, rows-end}
 
 -- events whose names start at f and whose clauses start at g
 unfoldable pub eventsFrom : List ℕ → ℕ → ℕ → ℕ → List EventRow → Bool

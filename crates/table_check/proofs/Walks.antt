@@ -4,9 +4,8 @@ use native.Mathlib.Omega.{arith}
 use native.Mathlib.Numerals.{add-one}
 use mathlib.Core.List.{List, [], _∷_, map}
 use mathlib.Core.Path.{_≡_}
-use lib.ListN.{getD, take, drop, drop-of-length-le}
+use lib.ListN.{getD, drop, drop-of-length-le}
 use Rattle.list.specs.Numbered.{rows}
-use Rattle.le.specs.Le.{part}
 use Rattle.list.proofs.Laws.{numbered-at, numbered-map, rows-length, rows-next}
 
 module _ {X : Type 0} (f : List ℕ → X) (w n : ℕ) (l : List ℕ) (i : ℕ) where
@@ -21,10 +20,3 @@ pub map-at : {X Y : Type 0} (g : X → Y) (f : List ℕ → X) (w n : ℕ) (l : 
     → getD (map g (rows f w n l)) j d ≡ g (f (drop (w * j) l))
 unfolding rows
 map-at g f w n l j d h = rw (numbered-map g (λ (i : ℕ). f (drop (w * i) l)) n) (numbered-at (λ (i : ℕ). g (f (drop (w * i) l))) n j d h)
-
--- n bytes from `at` on, as they are lent
-pub part-lent : (l : List ℕ) (at n : ℕ) → take (at + n - at) (drop at l) ≡ part l at n
-unfolding part
-part-lent l at n =
-    let k : at + n - at ≡ n = omega arith in
-    rw k

@@ -7,6 +7,7 @@ use mathlib.Core.Path.{_≡_, refl, sym, _∙_}
 use lib.Dec.{leb, eqb}
 use lib.ListN.{length, take, drop}
 use borrow.Author.Tests.{eqb-true, leb-false}
+use Rattle.le.proofs.Laws.{part-lent}
 use Rattle.text.specs.Conditions.{allOf, every}
 use Rattle.words.specs.Words.{wordOk}
 use Rattle.table.specs.Layout.{wordLength, wordIn, wordText}
@@ -16,7 +17,7 @@ use Rattle.table.specs.declared.WordRow.{WordRow}
 use Rattle.table.proofs.Spans.{follow-past}
 use Rattle.table_check.specs.Check.{wordRows, textsOf, wordAsked, laid}
 use Rattle.text.proofs.Tested.{broken}
-use Rattle.table_check.proofs.Walks.{rows-more, rows-end, part-lent}
+use Rattle.table_check.proofs.Walks.{rows-more, rows-end}
 
 -- a text as it is lent
 pub text-lent : (texts : List ℕ) (w : WordRow) → take (w .at + w .len - w .at) (drop (w .at) texts) ≡ wordText texts w

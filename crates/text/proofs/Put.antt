@@ -74,3 +74,7 @@ put-copy {src} {from} {to} p d q at h e = rw size at (put-patch {l = d} {t = x} 
 
     written : take at d ++ (q ++ drop (at + (to - from) - at) (drop at d)) ≡ patch d at x
     written = rw (copied, n, drop-drop (length x) at d) (sym (append-assoc (take at d) x (drop (at + length x) d)))
+
+-- the whole of a text
+pub put-whole : (x : List ℕ) {l m : List ℕ} {at r : ℕ} → Put l m at (slice 0 (length x) x) r → Put l m at x r
+put-whole x p = rw (take-length x) at p

@@ -17,7 +17,7 @@ use Rattle.le.proofs.Signs.{back}
 use Rattle.list.proofs.Elements.{none-at}
 use Rattle.text.specs.Answer.{Refused, Got, given}
 use Rattle.text.specs.Read.{Put}
-use Rattle.text.proofs.Laws.{part-end}
+use Rattle.text.proofs.Put.{put-whole}
 use Rattle.sheet.specs.Sheet.{Event, nameLimit}
 use Rattle.table.specs.Layout.{tableLength, countsIn, partsIn}
 use Rattle.table.specs.Table.{isTable, sheetOf, readTable}
@@ -77,5 +77,5 @@ module _ (t : List ℕ) (i : ℤ) (b : List ℕ) where
               → NameAs t i b m (Length r)
           name-put {x} {m} {r} h q p =
               let e : eventNameDo t i b ≡ Got x = row ∙ ap (given 15) (name-at (sheetOf (partsIn t) .events) (natAbs (back w64 i)) (omega (arith, events-count t)) ∙ ap some (sym q)) in
-              let w : Put b m 0 x r = rw (part-end 0 x) at p in
+              let w : Put b m 0 x r = put-whole x p in
               record { is = rw e (ap Got (omega (arith, w .end))); bytes = rw e (w .written) }
