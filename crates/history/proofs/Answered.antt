@@ -1,6 +1,6 @@
 -- No call says 0 unless it is done; and what each then leaves. Assumes nothing.
 use Prim.Native.Nat.{ℕ}
-use mathlib.Core.Bool.{_||_}
+use mathlib.Core.Bool.{Bool, true, false, cond, _||_}
 use mathlib.Core.List.{List}
 use mathlib.Core.Option.{Option, none, some}
 use mathlib.Core.Path.{_≡_, refl}
@@ -8,13 +8,19 @@ use lib.Dec.{ltb, eqb}
 use lib.ListN.{length}
 use lib.Signed.{ltZ}
 use Rattle.le.specs.Field.{u32}
-use Rattle.text.specs.Answer.{Answer, Got, _>>=_, must, given}
+use Rattle.text.specs.Answer.{Answer, Refused, Got, _>>=_, must, given}
 use Rattle.text.proofs.Refusals.{Gives, refuses, gives, Any, must-gives, given-gives, then-with, then-gives, loud, lines-give}
+use Rattle.text.specs.Number.{unsigned}
 use Rattle.utf8.specs.Alone.{text}
+use Rattle.operate.specs.Operate.{operateOf}
+use Rattle.signal.specs.Signal.{signalOf}
+use Rattle.sheet.specs.Sheet.{Kind, Sheet}
+use Rattle.sheet.specs.Read.{positionLine, eventLine, clauseLine, laterLine, sheetLine, readSheet}
 use Rattle.bar.specs.Bar.{barOf}
 use Rattle.bar.specs.declared.Time.{Time}
 use Rattle.event.specs.Signals.{Line, signalLine, readSignals}
 use Rattle.table.specs.Layout.{tableLength}
+use Rattle.table.specs.Compile.{compileDo}
 use Rattle.table.specs.Table.{readTable}
 use Rattle.position.specs.Step.{Fed}
 use Rattle.position.specs.Feed.{Input, fedOf, admitted}
@@ -43,6 +49,47 @@ admitted-gives c holds end i = search (loud, fed-gives)
 table-gives : (t : List ℕ) → Gives Any (readTable t)
 unfolding readTable
 table-gives t = search loud
+
+-- ---- compiling
+
+signal-gives : (s : List ℕ) → Gives Any (signalOf s)
+unfolding signalOf
+signal-gives s = search loud
+
+operate-gives : (s : List ℕ) → Gives Any (operateOf s)
+unfolding operateOf
+operate-gives s = search loud
+
+position-gives : (f : List (List ℕ)) → Gives Any (positionLine f)
+unfolding positionLine unsigned
+position-gives f = search loud depth 12
+
+event-gives : (exit : Bool) (s : Sheet) (f : List (List ℕ)) → Gives Any (eventLine exit s f)
+unfolding eventLine
+event-gives exit s f = search (loud, operate-gives)
+
+clause-gives : (kind : Kind) (s : Sheet) (f : List (List ℕ)) → Gives Any (clauseLine kind s f)
+unfolding clauseLine
+clause-gives kind s f = search (loud, signal-gives)
+
+cond-gives : {X : Type 0} (t : Bool) (x y : Answer X) → Gives Any x → Gives Any y → Gives Any (cond t x y)
+cond-gives true x y g h = g
+cond-gives false x y g h = h
+
+wrong-gives : {X : Type 0} → Gives {X = X} Any (Refused 2)
+wrong-gives = refuses
+
+later-gives : (s : Sheet) (f : List (List ℕ)) → Gives Any (laterLine s f)
+unfolding laterLine
+later-gives s f = search (cond-gives, event-gives, clause-gives, wrong-gives) depth 12
+
+sheet-line-gives : (o : Option Sheet) (f : List (List ℕ)) → Gives Any (sheetLine o f)
+sheet-line-gives none f = search (loud, position-gives)
+sheet-line-gives (some s) f = search (loud, later-gives)
+
+pub compile-gives : (s table : List ℕ) → Gives Any (compileDo s table)
+unfolding compileDo readSheet text
+compile-gives s table = search (loud, lines-give sheetLine sheet-line-gives)
 
 -- ---- the calls
 

@@ -8,11 +8,14 @@ use lib.IntN.{pos, negsuc}
 use lib.Ieee.{binary64, ofBits}
 use lib.ListN.{replicate}
 use Rattle.le.specs.Le.{patch}
+use Rattle.text.specs.Answer.{Refused, Got}
 use Rattle.text.specs.Literal.{bytes}
 use Rattle.text.specs.Text.{same}
+use Rattle.double.specs.declared.Yield.the-variants.{Absent}
 use Rattle.position.specs.Step.{plain}
 use Rattle.table.proofs.Examples.{soy, meant}
 use Rattle.book.specs.Layout.{encode}
+use Rattle.rows.specs.Calls.{pairDo, pairBytes, holdDo}
 use Rattle.history.specs.Calls.{Call, Fresh, Feed, Save, Restore, PairRow, HoldRow, answered, after, Past, Unknown, Known, bookAfter, survivors}
 use Rattle.history.proofs.Opened.{opened}
 
@@ -92,6 +95,19 @@ bookOf (Known fs) = encode 3 (plain meant fs)
 kept : same (bookAfter start calls) (bookOf (survivors soy start calls)) ≡ true
 unfolding opened soy meant start buffer beginning image calls
 kept = refl
+
+-- ---- and its rows: a pair of bars 1 and 6, the hold of bar 6, no more of either
+
+pair-row : (pairBytes (replicate 2048 3) (pairDo soy (bookAfter start calls) (pos 0) (replicate 2048 3)) ≡ bytes "M1soygo@is_match -> out@is_match" ++ replicate 2016 3)
+    × (pairDo soy (bookAfter start calls) (pos 1) (replicate 2048 3) ≡ Refused 15)
+unfolding opened soy start buffer beginning image calls
+pair-row = (refl, refl)
+
+hold-row : (holdDo soy (bookAfter start calls) (pos 2)
+    ≡ Got (record { local = record { 0 = pos 172800000000 }; pos = pos 0; price = ofBits binary64 0x4059_0000_0000_0000; n1b = Absent }))
+    × (holdDo soy (bookAfter start calls) (pos 3) ≡ Refused 15)
+unfolding opened soy start buffer beginning image calls
+hold-row = (refl, refl)
 
 -- ---- an image that no save wrote leaves nothing claimed, until a fresh
 

@@ -26,6 +26,7 @@ use Rattle.book.proofs.Feeds.{Ready, feed-is}
 use Rattle.book.proofs.Ready.{ready}
 use Rattle.history.specs.Calls.{Fresh, Feed, Save, Restore, answered, after, Past, Unknown, Known, Ledger, add, note, savedAs, ifDone, survive}
 use Rattle.history.proofs.Invariant.{BookOf, Follows, Good, note-right, saved-follows}
+use Rattle.history.proofs.Booked.{cleared, stepped}
 use Rattle.history.proofs.Answered.{Cleared, fresh-gives, feed-gives, save-gives, restore-gives}
 
 -- ---- save and restore
@@ -51,32 +52,9 @@ module _ (table : List ℕ) (s : Sheet) (l : Ledger) (b : List ℕ) (good : Good
 -- ---- fresh and feed
 
 module _ (table : List ℕ) (s : Sheet) (meant : readTable table ≡ Got s) where
-  cleared : (b x : List ℕ) → Cleared b x → BookOf s (plain s []) x
-  unfolding plain plainFrom freshState freshBook
-  cleared b x e =
-      let range = capacity-range b (e .0) (e .1) in
-      record {
-        bars = e .0;
-        state = e .2;
-        sound = sound-fresh s;
-        room = record { events = table-events table s meant; least = range .1; most = range .2; holds = omega arith };
-      }
-
-  -- a bar that the plain machine admits
-  stepped : (st : State) (b : List ℕ) (k : BookOf s st b) (i : Input) (f : Fed) → T (fits binary64 (i .price))
-      → admitted (k .bars) (length (st .holds)) (st .head .end) i ≡ Got f → BookOf s (step s (f .bar) (f .signals) st) (encode (k .bars) (step s (f .bar) (f .signals) st))
-  stepped st b k i f double e =
-      let c = k .bars in
-      let a = admitted-got c (length (st .holds)) (st .head .end) i f e in
-      let room = k .room in
-      let grown = holds-grow s (f .bar) (f .signals) st in
-      let space = a .2 in
-      record {
-        bars = c;
-        state = refl;
-        sound = sound-step s (f .bar) (f .signals) st (k .sound) (fed-ok i f (a .0) double) (a .1);
-        room = record { events = room .events; least = room .least; most = room .most; holds = omega arith };
-      }
+  fresh-book : (b x : List ℕ) → Cleared b x → BookOf s (plain s []) x
+  unfolding plain plainFrom
+  fresh-book b x e = cleared table s meant b x e
 
   -- an accepted feed of a book whose past is known
   more : (fs : List Fed) (b : List ℕ) (i : Input) (x : Accepted (List ℕ)) → BookOf s (plain s fs) b → T (fits binary64 (i .price)) → feedDo table b i ≡ Got x
@@ -101,7 +79,7 @@ module _ (table : List ℕ) (s : Sheet) (meant : readTable table ≡ Got s) wher
           → Follows s (add (Known fs) (fedOf i)) (x .after)
       go (Refused n) h e = absurd (let z : _≡_ {A = ℕ} 0 1 = cc in omega arith)
       go (Got f) h e =
-          rw (admitted-got c (length (st .holds)) (st .head .end) i f h .0, plain-more s fs f, ← ap (feedBytes b) e) (stepped st b k i f double h)
+          rw (admitted-got c (length (st .holds)) (st .head .end) i f h .0, plain-more s fs f, ← ap (feedBytes b) e) (stepped table s meant st b k i f double h)
 
   module _ (l : Ledger) (b : List ℕ) (good : Good s l b) where
     pub fresh-keeps : Good s (survive table l Fresh (answered b Fresh)) (after b Fresh)
@@ -109,7 +87,7 @@ module _ (table : List ℕ) (s : Sheet) (meant : readTable table ≡ Got s) wher
       where
         go : {a : Answer (List ℕ)} → Gives (Cleared b) a → Good s (ifDone (number a) (record { past = Known []; saves = l .saves }) l) (orElse b a)
         go refuses = good
-        go (gives {x} e) = record { book = cleared b x e; saves = good .saves }
+        go (gives {x} e) = record { book = fresh-book b x e; saves = good .saves }
 
     pub feed-keeps : (t : List ℕ) (i : Input) → T (fits binary64 (i .price)) → Good s (survive table l (Feed t i) (answered b (Feed t i))) (after b (Feed t i))
     feed-keeps t i double = go refl (feed-gives t b i)

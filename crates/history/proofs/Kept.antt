@@ -47,11 +47,11 @@ module _ (table : List ℕ) (s : Sheet) (meant : readTable table ≡ Got s) wher
     unfolding saveDo checked
     save-is image e = rw (sized-is, eq-eqb (length image) (length (encode c st)) e, meant, passes)
 
-    pair-is : (i : ℤ) (buffer : List ℕ) → rowBuffer ≤ length buffer → pairDo table (encode c st) i buffer ≡ given 15 (rowAt (pairsOf s (st .records)) i)
+    pub pair-is : (i : ℤ) (buffer : List ℕ) → rowBuffer ≤ length buffer → pairDo table (encode c st) i buffer ≡ given 15 (rowAt (pairsOf s (st .records)) i)
     unfolding pairDo checked
     pair-is i buffer h = rw (sized-is, le-leb rowBuffer (length buffer) h, meant, passes, records-kept s c st sound room)
 
-    hold-is : (i : ℤ) → holdDo table (encode c st) i ≡ given 15 (rowAt (holdRows (st .holds)) i)
+    pub hold-is : (i : ℤ) → holdDo table (encode c st) i ≡ given 15 (rowAt (holdRows (st .holds)) i)
     unfolding holdDo checked
     hold-is i = rw (sized-is, meant, passes, holds-kept s c st sound room)
 

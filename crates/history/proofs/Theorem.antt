@@ -8,9 +8,9 @@ use store.Enc.{and-l, and-r}
 use Rattle.text.specs.Answer.{Answer, Got}
 use Rattle.sheet.specs.Sheet.{Sheet}
 use Rattle.table.specs.Table.{readTable}
-use Rattle.table.specs.Compile.{compileDo, Means, Compiled}
+use Rattle.table.specs.Compile.{Means, Compiled}
 use Rattle.history.specs.Calls.{Call, Fresh, Feed, Save, Restore, PairRow, HoldRow, answered, after, Past, Unknown, Known, Ledger, survive, bookAfter, ledgerFrom, survivors}
-use Rattle.history.specs.Claim.{Claimed, isDouble, doubles, Claim}
+use Rattle.history.specs.Claim.{Claimed, isDouble, doubles, Claim, TableClaim}
 use Rattle.history.proofs.Invariant.{Follows, Good}
 use Rattle.history.proofs.Keeps.{fresh-keeps, feed-keeps, save-keeps, restore-keeps}
 use Rattle.history.proofs.Kept.{kept}
@@ -36,16 +36,15 @@ module _ (table : List ℕ) (s : Sheet) (meant : readTable table ≡ Got s) wher
   claimed Unknown b k = tt
   claimed (Known fs) b k = kept table s meant fs b k
 
-pub claim : Claim
-unfolding Claim survivors Forall
-claim table s meant b cs double =
+pub table-claim : TableClaim
+unfolding TableClaim survivors Forall
+table-claim table s meant b cs double =
     let start : Ledger = record { past = Unknown; saves = [] } in
     claimed table s meant (survivors table b cs) (bookAfter b cs) (all-keep table s meant cs start b double (record { book = tt; saves = tt }) .book)
 
--- in words of compiling: the table of an accepted compile, of the sheet that its text says
-pub compiled-claim : (text before table : List ℕ) (s : Sheet) → compileDo text before ≡ Got s → Compiled (compileDo text before) before table
-    → (b : List ℕ) (cs : List Call) → T (doubles cs) → Claimed table s (survivors table b cs) (bookAfter b cs)
-unfolding Claim
-compiled-claim text before table s done wrote b cs double =
+-- the table that an accepted compile wrote means the sheet of its text
+pub claim : Claim
+unfolding Claim TableClaim
+claim text before table s done wrote =
     let means : Means table s = subst (λ (a : Answer Sheet). Compiled a before table) done wrote in
-    claim table s (means .meant) b cs double
+    table-claim table s (means .meant)

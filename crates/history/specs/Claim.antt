@@ -13,6 +13,7 @@ use Rattle.text.specs.Answer.{Got, _>>=_, given, number}
 use Rattle.text.specs.Text.{same}
 use Rattle.text.specs.Conditions.{anyOf}
 use Rattle.sheet.specs.Sheet.{Sheet}
+use Rattle.table.specs.Compile.{compileDo, Compiled}
 use Rattle.table.specs.Table.{readTable}
 use Rattle.position.specs.Step.{Fed, plain}
 use Rattle.position.specs.Feed.{Input, feedState}
@@ -60,13 +61,17 @@ unfoldable pub doubles : List Call → Bool
 doubles [] = true
 doubles (c ∷ cs) = isDouble c && doubles cs
 
--- For every table (one that an accepted compile of a text wrote means the text's sheet: `Compiled`), whatever bytes the book had at first,
--- whatever the calls and their arguments.
+-- Every list of calls: whatever bytes the book had at first, whatever the calls and their arguments. The table of the book means the sheet.
+abbrev pub EveryList : List ℕ → Sheet → Type 0
+EveryList table s = (b : List ℕ) (cs : List Call) → T (doubles cs) → Claimed table s (survivors table b cs) (bookAfter b cs)
+
+-- Demand 3: of the table that an accepted compile of a text wrote, and the sheet that the text says.
 unfoldable pub Claim : Type 0
-Claim =
-    (table : List ℕ) (s : Sheet) → readTable table ≡ Got s
-    → (b : List ℕ) (cs : List Call) → T (doubles cs)
-    → Claimed table s (survivors table b cs) (bookAfter b cs)
+Claim = (text before table : List ℕ) (s : Sheet) → compileDo text before ≡ Got s → Compiled (compileDo text before) before table → EveryList table s
+
+-- The same of any bytes that are a table.
+unfoldable pub TableClaim : Type 0
+TableClaim = (table : List ℕ) (s : Sheet) → readTable table ≡ Got s → EveryList table s
 
 -- ---- when the survivors are known
 
