@@ -1,0 +1,220 @@
+// The lines that the run program prints, written to a buffer: a feed, a pair row, a hold row, a refusal.
+use double::Side;
+use double::Yield;
+use pairs::PairRow;
+use position::HoldRow;
+use text::LF;
+use text::PIPE;
+use text::put_byte;
+use text::put_decimal;
+use text::put_hex;
+use text::put_part;
+ghost use mathlib.Core.List.{[], _∷_, _++_};
+ghost use mathlib.Core.Bool.{not};
+ghost use Prim.Native.Nat.{_+_, _-_, _≤_};
+ghost use lib.Dec.{T};
+ghost use lib.Ieee.{isNan};
+ghost use lib.ListN.{length};
+ghost use lib.Seq.{slice};
+ghost use Rattle.le.specs.Le.{part};
+ghost use Rattle.text.specs.Literal.{bytes};
+ghost use Rattle.text.specs.Number.{decimalOf, integerOf};
+ghost use Rattle.text.specs.Read.{Part, Put};
+ghost use Rattle.text.specs.Text.{pipe};
+ghost use Rattle.position.specs.Run.{line, hexBits, yieldText, sideText, flagText, pairLine, holdLine};
+ghost use Rattle.run_output.specs.Shown.{pairIn, fieldsText, ShortPut, YieldShown, HoldShown, PairShown};
+
+// The most bytes of a line: of a feed or a refusal, of a pair row, of a hold row.
+pub const FEED_ROOM: usize = 64;
+
+pub const PAIR_ROOM: usize = 2304;
+
+pub const HOLD_ROOM: usize = 128;
+
+// A whole number in plain decimal.
+fn put_integer(out: &mut [u8], at: usize, v: i64) -> usize
+    requires { ⌜ at + 21 ≤ length (now out) ⌝ }
+    ensures { λ r. ⌜ ShortPut 21 (now (out .entry)) (now (out .exit)) at (integerOf v) r ⌝ }
+{
+    if v < 0 {
+        let digits = put_byte(out, at, b'-');
+        return put_decimal(out, digits, (-1 - v) as u64 + 1);
+    }
+    put_decimal(out, at, v as u64)
+}
+
+// The bits of a double.
+fn put_real(out: &mut [u8], at: usize, x: f64) -> usize
+    requires { ⌜ at + 16 ≤ length (now out) ⌝ }
+    requires { ⌜ T (not (isNan x)) ⌝ }
+    ensures { λ r. ⌜ ShortPut 16 (now (out .entry)) (now (out .exit)) at (hexBits x) r ⌝ }
+{
+    put_hex(out, at, f64::to_bits(x))
+}
+
+// The bits of a yield, or `-`.
+fn put_yield(out: &mut [u8], at: usize, y: Yield) -> usize
+    requires { ⌜ at + 16 ≤ length (now out) ⌝ }
+    requires { ⌜ YieldShown y ⌝ }
+    ensures { λ r. ⌜ ShortPut 16 (now (out .entry)) (now (out .exit)) at (yieldText y) r ⌝ }
+{
+    match y {
+        Yield::Absent => put_byte(out, at, b'-'),
+        Yield::Bp(x) => put_real(out, at, x),
+    }
+}
+
+// L or S.
+fn put_side(out: &mut [u8], at: usize, side: Side) -> usize
+    requires { ⌜ at + 1 ≤ length (now out) ⌝ }
+    ensures { λ r. ⌜ ShortPut 1 (now (out .entry)) (now (out .exit)) at (sideText side) r ⌝ }
+{
+    match side {
+        Side::Long => put_byte(out, at, b'L'),
+        Side::Short => put_byte(out, at, b'S'),
+    }
+}
+
+// 1 or 0.
+fn put_flag(out: &mut [u8], at: usize, t: bool) -> usize
+    requires { ⌜ at + 1 ≤ length (now out) ⌝ }
+    ensures { λ r. ⌜ ShortPut 1 (now (out .entry)) (now (out .exit)) at (flagText t) r ⌝ }
+{
+    if t {
+        return put_byte(out, at, b'1');
+    }
+    put_byte(out, at, b'0')
+}
+
+// A whole number that other fields follow.
+fn integer_field(out: &mut [u8], at: usize, v: i64) -> usize
+    requires { ⌜ at + 22 ≤ length (now out) ⌝ }
+    ensures { λ r. ⌜ ShortPut 22 (now (out .entry)) (now (out .exit)) at (integerOf v ++ pipe ∷ []) r ⌝ }
+{
+    let end = put_integer(out, at, v);
+    put_byte(out, end, PIPE)
+}
+
+// A natural number that other fields follow.
+fn decimal_field(out: &mut [u8], at: usize, v: u64) -> usize
+    requires { ⌜ at + 21 ≤ length (now out) ⌝ }
+    ensures { λ r. ⌜ ShortPut 21 (now (out .entry)) (now (out .exit)) at (decimalOf v ++ pipe ∷ []) r ⌝ }
+{
+    let end = put_decimal(out, at, v);
+    put_byte(out, end, PIPE)
+}
+
+// The bits of a double that other fields follow.
+fn real_field(out: &mut [u8], at: usize, x: f64) -> usize
+    requires { ⌜ at + 17 ≤ length (now out) ⌝ }
+    requires { ⌜ T (not (isNan x)) ⌝ }
+    ensures { λ r. ⌜ ShortPut 17 (now (out .entry)) (now (out .exit)) at (hexBits x ++ pipe ∷ []) r ⌝ }
+{
+    let end = put_real(out, at, x);
+    put_byte(out, end, PIPE)
+}
+
+// A text, from..to of s, that other fields follow.
+fn text_field(out: &mut [u8], at: usize, s: &[u8], from: usize, to: usize) -> usize
+    requires { ⌜ Part (now s) from to ⌝ }
+    requires { ⌜ at + (to - from) + 1 ≤ length (now out) ⌝ }
+    ensures { λ r. ⌜ ShortPut (to - from + 1) (now (out .entry)) (now (out .exit)) at (slice from to (now (s .entry)) ++ pipe ∷ []) r ⌝ }
+{
+    let end = put_part(out, at, s, from, to);
+    put_byte(out, end, PIPE)
+}
+
+// The last field of a line: a yield.
+fn last_yield(out: &mut [u8], at: usize, y: Yield) -> usize
+    requires { ⌜ at + 17 ≤ length (now out) ⌝ }
+    requires { ⌜ YieldShown y ⌝ }
+    ensures { λ r. ⌜ Put (now (out .entry)) (now (out .exit)) at (line (yieldText y ∷ [])) r ⌝ }
+{
+    let end = put_yield(out, at, y);
+    put_byte(out, end, LF)
+}
+
+// `E|number`.
+pub fn put_refusal(out: &mut [u8], at: usize, number: u32) -> usize
+    requires { ⌜ at + 64 ≤ length (now out) ⌝ }
+    ensures { λ r. ⌜ Put (now (out .entry)) (now (out .exit)) at (line (bytes "E" ∷ decimalOf number ∷ [])) r ⌝ }
+{
+    let a = text_field(out, at, b"E", 0, 1);
+    let b = put_decimal(out, a, number as u64);
+    put_byte(out, b, LF)
+}
+
+// `F|answer|pos|changed`.
+pub fn put_feed(out: &mut [u8], at: usize, number: u32, pos: i32, changed: bool) -> usize
+    requires { ⌜ at + 64 ≤ length (now out) ⌝ }
+    ensures { λ r. ⌜ Put (now (out .entry)) (now (out .exit)) at (line (bytes "F" ∷ decimalOf number ∷ integerOf pos ∷ flagText changed ∷ [])) r ⌝ }
+{
+    let a = text_field(out, at, b"F", 0, 1);
+    let b = decimal_field(out, a, number as u64);
+    let c = integer_field(out, b, pos as i64);
+    let d = put_flag(out, c, changed);
+    put_byte(out, d, LF)
+}
+
+// `H|local|pos|price|yield`.
+pub fn put_hold(out: &mut [u8], at: usize, o: HoldRow) -> usize
+    requires { ⌜ at + 128 ≤ length (now out) ⌝ }
+    requires { ⌜ HoldShown o ⌝ }
+    ensures { λ r. ⌜ Put (now (out .entry)) (now (out .exit)) at (holdLine o) r ⌝ }
+{
+    let local = o.local;
+    let n1b = o.n1b;
+    let a = text_field(out, at, b"H", 0, 1);
+    let b = integer_field(out, a, local.micros());
+    let c = integer_field(out, b, o.pos as i64);
+    let d = real_field(out, c, o.price);
+    last_yield(out, d, n1b)
+}
+
+// The fields of a pair row up to the sequence's: both local times, both prices, the id difference.
+fn pair_numbers(out: &mut [u8], at: usize, p: PairRow) -> usize
+    requires { ⌜ at + 100 ≤ length (now out) ⌝ }
+    requires { ⌜ T (not (isNan (p .from))) ⌝ }
+    requires { ⌜ T (not (isNan (p .to))) ⌝ }
+    ensures { λ r. ⌜ ShortPut 100 (now (out .entry)) (now (out .exit)) at (fieldsText (integerOf (p .opened .0) ∷ integerOf (p .closed .0) ∷ hexBits (p .from) ∷ hexBits (p .to) ∷ integerOf (p .ids) ∷ [])) r ⌝ }
+{
+    let opened = p.opened;
+    let closed = p.closed;
+    let a = integer_field(out, at, opened.micros());
+    let b = integer_field(out, a, closed.micros());
+    let c = real_field(out, b, p.from);
+    let d = real_field(out, c, p.to);
+    integer_field(out, d, p.ids)
+}
+
+// The first fields of a pair row: symbol, mark and side.
+fn pair_names(out: &mut [u8], at: usize, p: PairRow, buffer: &[u8]) -> usize
+    requires { ⌜ p .symbol + p .mark ≤ length (now buffer) ⌝ }
+    requires { ⌜ at + (p .symbol + p .mark) + 6 ≤ length (now out) ⌝ }
+    ensures { λ r. ⌜ ShortPut (p .symbol + p .mark + 6) (now (out .entry)) (now (out .exit)) at (fieldsText (bytes "R" ∷ part (now (buffer .entry)) 0 (p .symbol) ∷ part (now (buffer .entry)) (p .symbol) (p .mark) ∷ sideText (p .side) ∷ [])) r ⌝ }
+{
+    let side = p.side;
+    let symbol = p.symbol;
+    let mark = symbol + p.mark;
+    let a = text_field(out, at, b"R", 0, 1);
+    let b = text_field(out, a, buffer, 0, symbol);
+    let c = text_field(out, b, buffer, symbol, mark);
+    let d = put_side(out, c, side);
+    put_byte(out, d, PIPE)
+}
+
+// `R|symbol|mark|side|opened|closed|from|to|ids|sequence|days|yield`, with the texts of the row buffer.
+pub fn put_pair(out: &mut [u8], at: usize, p: PairRow, buffer: &[u8]) -> usize
+    requires { ⌜ at + 2304 ≤ length (now out) ⌝ }
+    requires { ⌜ PairShown p (now buffer) ⌝ }
+    ensures { λ r. ⌜ Put (now (out .entry)) (now (out .exit)) at (pairLine (pairIn p (now (buffer .entry)))) r ⌝ }
+{
+    let from = p.symbol + p.mark;
+    let to = from + p.sequence;
+    let bp = p.bp;
+    let a = pair_names(out, at, p, buffer);
+    let b = pair_numbers(out, a, p);
+    let c = text_field(out, b, buffer, from, to);
+    let d = real_field(out, c, p.days);
+    last_yield(out, d, bp)
+}
