@@ -1,0 +1,157 @@
+-- The rows of a book of the plain machine: what a request for one answers, how many there are, and that their doubles are numbers.
+-- Assumes nothing.
+use Prim.Native.Nat.{ℕ, zero, suc, _≤_}
+use native.Mathlib.Omega.{arith}
+use mathlib.Core.Bool.{Bool, true, false, not, cond, false≢true}
+use mathlib.Core.List.{List, [], _∷_, map}
+use mathlib.Core.Option.{Option, none, some}
+use mathlib.Core.Path.{_≡_, refl, sym, ap, subst, _∙_}
+use mathlib.Mathlib.Data.List.Defs.{Forall}
+use mathlib.Mathlib.Data.List.Basic.{forall-cons, Forall·imp}
+use lib.Dec.{T}
+use lib.IntN.{ℤ}
+use lib.Ieee.{Float, nan, inf, fin, isNan}
+use lib.Ieee.Scale.{finite}
+use lib.ListN.{length, getElem?, length-map}
+use Rattle.text.specs.Answer.{given}
+use Rattle.double.specs.Double.{yieldOk, pairYield}
+use Rattle.double.specs.declared.Yield.{Yield}
+use Rattle.double.specs.declared.Yield.the-variants.{Absent, Bp}
+use Rattle.double.proofs.Numbers.{pair-number}
+use Rattle.bar.specs.Time.{secondsBetween}
+use Rattle.sheet.specs.Sheet.{Sheet}
+use Rattle.table.proofs.Facts.{read-is}
+use Rattle.position.specs.State.{State}
+use Rattle.position.specs.Rows.{Pair, opens, sideOf, pairOf, pairsOf, holdRow, holdRows}
+use Rattle.position.specs.Run.{runBars}
+use Rattle.position.specs.declared.Record.{Record}
+use Rattle.position.specs.declared.Hold.{Hold}
+use Rattle.position.specs.declared.HoldRow.{HoldRow}
+use Rattle.position.proofs.Sound.{HoldOk, RecordOk, YieldOk}
+use Rattle.book.specs.Layout.{encode, recordsOf, holdsOf}
+use Rattle.book.proofs.Ready.{holds-kept, records-kept}
+use Rattle.rows.specs.Calls.{rowBuffer, rowAt, pairDo, holdDo}
+use Rattle.history.proofs.Kept.{pair-is, hold-is}
+use Rattle.run_rows.specs.Rows.{Booked, pairRows}
+use Rattle.run_rows.proofs.Numbers.{days-number}
+
+-- ---- lists of rows
+
+pairs-few : (s : Sheet) (rs : List Record) → length (pairsOf s rs) ≤ length rs
+unfolding pairsOf
+pairs-few s [] = omega arith
+pairs-few s (a ∷ []) = omega arith
+pairs-few s (a ∷ b ∷ rs) = go (opens a) (pairs-few s (b ∷ rs))
+  where
+    go : (t : Bool) → length (pairsOf s (b ∷ rs)) ≤ length (b ∷ rs) → length (cond t (pairOf s a b ∷ pairsOf s (b ∷ rs)) (pairsOf s (b ∷ rs))) ≤ length (a ∷ b ∷ rs)
+    go true h = omega arith
+    go false h = omega arith
+
+-- the doubles of a pair are numbers
+pub record PairNumbers (p : Pair) : Type 0 where
+  pub from : T (not (isNan (p .openPrice)))
+  pub to : T (not (isNan (p .closePrice)))
+  pub days : T (not (isNan (p .days)))
+  pub bp : T (yieldOk (p .yield))
+
+finite-number : (x : Float) → finite x ≡ true → T (not (isNan x))
+unfolding isNan
+finite-number nan e = absurd (false≢true e)
+finite-number (inf t) e = tt
+finite-number (fin t m e) h = tt
+
+pair-numbers : (s : Sheet) (a b : Record) → RecordOk s a → RecordOk s b → PairNumbers (pairOf s a b)
+unfolding pairOf
+pair-numbers s a b p q =
+    let u : T (finite (a .bar .price)) = rw (p .bar .price) tt in
+    let v : T (finite (b .bar .price)) = rw (q .bar .price) tt in
+    record {
+      from = finite-number (a .bar .price) (p .bar .price);
+      to = finite-number (b .bar .price) (q .bar .price);
+      days = days-number (secondsBetween (a .bar .time .instant .0) (b .bar .time .instant .0));
+      bp = pair-number (sideOf a) (a .bar .price) (b .bar .price) u v;
+    }
+
+pairs-numbers : (s : Sheet) (rs : List Record) → Forall (RecordOk s) rs → Forall PairNumbers (pairsOf s rs)
+unfolding pairsOf Forall
+pairs-numbers s [] h = tt
+pairs-numbers s (a ∷ []) h = tt
+pairs-numbers s (a ∷ b ∷ rs) h =
+    let one = forall-cons (RecordOk s) a (b ∷ rs) .0 h in
+    let two = forall-cons (RecordOk s) b rs .0 (one .1) in
+    go (opens a) (pair-numbers s a b (one .0) (two .0)) (pairs-numbers s (b ∷ rs) (one .1))
+  where
+    go : (t : Bool) → PairNumbers (pairOf s a b) → Forall PairNumbers (pairsOf s (b ∷ rs))
+        → Forall PairNumbers (cond t (pairOf s a b ∷ pairsOf s (b ∷ rs)) (pairsOf s (b ∷ rs)))
+    go true p ps = forall-cons PairNumbers (pairOf s a b) (pairsOf s (b ∷ rs)) .1 (p, ps)
+    go false p ps = ps
+
+-- the doubles of a hold row
+pub record HoldNumbers (o : HoldRow) : Type 0 where
+  pub price : T (not (isNan (o .price)))
+  pub n1b : T (yieldOk (o .n1b))
+
+yield-number : (y : Yield) → YieldOk y → T (yieldOk y)
+yield-number Absent h = tt
+yield-number (Bp x) h = rw (h .0) tt
+
+hold-numbers : (o : Hold) → HoldOk o → HoldNumbers (holdRow o)
+unfolding holdRow
+hold-numbers o h = record { price = finite-number (o .price) (h .price); n1b = yield-number (o .n1b) (h .n1b) }
+
+holds-numbers : (os : List Hold) → Forall HoldOk os → Forall HoldNumbers (holdRows os)
+unfolding holdRows Forall
+holds-numbers [] h = tt
+holds-numbers (o ∷ os) h =
+    let each = forall-cons HoldOk o os .0 h in
+    forall-cons HoldNumbers (holdRow o) (map holdRow os) .1 (hold-numbers o (each .0), holds-numbers os (each .1))
+
+forall-at : {X : Type 0} (P : X → Type 0) (xs : List X) → Forall P xs → (i : ℕ) (x : X) → getElem? xs i ≡ some x → P x
+forall-at P [] h i x e = absurd (let z : _≡_ {A = ℕ} 0 1 = cc in omega arith)
+forall-at P (y ∷ xs) h zero x e = let each = forall-cons P y xs .0 h in let is : y ≡ x = cc in subst P is (each .0)
+forall-at P (y ∷ xs) h (suc i) x e = let each = forall-cons P y xs .0 h in forall-at P xs (each .1) i x e
+
+-- ---- those of a book
+
+module _ {table b : List ℕ} (k : Booked table b) where
+  abbrev s : Sheet
+  s = k .sheet
+
+  abbrev st : State
+  st = k .state
+
+  abbrev c : ℕ
+  c = k .book .bars
+
+  records-are : recordsOf runBars b ≡ st .records
+  records-are =
+      ap (λ (n : ℕ). recordsOf n b) (sym (k .bars)) ∙ ap (recordsOf c) (k .book .state) ∙ records-kept s c st (k .book .sound) (k .book .room)
+
+  pub pairs-are : pairRows table b ≡ pairsOf s (st .records)
+  pairs-are = rw (read-is table s (k .meant) .1, records-are)
+
+  pub holds-are : holdsOf b ≡ st .holds
+  holds-are = ap holdsOf (k .book .state) ∙ holds-kept s c st (k .book .sound) (k .book .room)
+
+  pub pair-asked : (i : ℤ) (buffer : List ℕ) → rowBuffer ≤ length buffer → pairDo table b i buffer ≡ given 15 (rowAt (pairRows table b) i)
+  pair-asked i buffer h =
+      ap (λ (x : List ℕ). pairDo table x i buffer) (k .book .state) ∙ pair-is table s (k .meant) c st (k .book .sound) (k .book .room) i buffer h
+      ∙ ap (λ (rows : List Pair). given 15 (rowAt rows i)) (sym pairs-are)
+
+  pub hold-asked : (i : ℤ) → holdDo table b i ≡ given 15 (rowAt (holdRows (holdsOf b)) i)
+  hold-asked i =
+      ap (λ (x : List ℕ). holdDo table x i) (k .book .state) ∙ hold-is table s (k .meant) c st (k .book .sound) (k .book .room) i
+      ∙ ap (λ (os : List Hold). given 15 (rowAt (holdRows os) i)) (sym holds-are)
+
+  pub pairs-within : length (pairRows table b) ≤ runBars
+  pairs-within = rw pairs-are (omega (arith, pairs-few s (st .records), k .book .sound .few, k .book .room .holds, k .bars))
+
+  pub holds-within : length (holdRows (holdsOf b)) ≤ runBars
+  unfolding holdRows
+  holds-within = rw (holds-are, length-map) (omega (arith, k .book .room .holds, k .bars))
+
+  pub pair-shown : (i : ℕ) (p : Pair) → getElem? (pairRows table b) i ≡ some p → PairNumbers p
+  pair-shown i p e = forall-at PairNumbers (pairRows table b) (rw pairs-are (pairs-numbers s (st .records) (k .book .sound .records))) i p e
+
+  pub hold-shown : (i : ℕ) (o : HoldRow) → getElem? (holdRows (holdsOf b)) i ≡ some o → HoldNumbers o
+  hold-shown i o e = forall-at HoldNumbers (holdRows (holdsOf b)) (rw holds-are (holds-numbers (st .holds) (k .book .sound .holds))) i o e
