@@ -16,10 +16,11 @@ use Rattle.operate.proofs.Laws.{name-none, name-is}
 use Rattle.signal.specs.Signal.{Signal, signalAlone}
 use Rattle.signal.specs.Read.{signalIn}
 use Rattle.signal.specs.declared.SignalAt.{SignalAt}
-use Rattle.position_book.specs.Calls.{signalDo, signalAnswer, signalBytes, nameDo, nameAnswer, nameBytes}
+use Rattle.answer.specs.Rows.{nameAnswer}
+use Rattle.answer.specs.declared.NameAnswer.{NameAnswer}
+use Rattle.position_book.specs.Calls.{signalDo, signalAnswer, signalBytes, nameDo, nameBytes}
 use Rattle.position_book.specs.Read.{SignalPut}
 use Rattle.position_book.specs.declared.SignalAnswer.{SignalAnswer}
-use Rattle.position_book.specs.declared.NameAnswer.{NameAnswer}
 
 -- ---- a signal alone
 

@@ -1,4 +1,3 @@
--- Laws of the exported calls, and worked examples.
+-- Laws of the exported calls.
 pub mod Laws
-mod Examples
-pub mod Values
+pub mod Results

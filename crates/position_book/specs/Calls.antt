@@ -1,5 +1,5 @@
--- What each exported call answers: its number and values, and the bytes of each lent buffer at exit. A refusal has zeros for values
--- and keeps every byte. Assumes nothing.
+-- What the exported calls of a text or a code alone answer: the number and values, and the bytes of the lent buffer at exit. A refusal has zeros
+-- for values and keeps every byte. Assumes nothing.
 use Prim.Native.Nat.{ℕ}
 use mathlib.Core.List.{List, _++_}
 use lib.Dec.{leb}
@@ -10,7 +10,6 @@ use Rattle.operate.specs.Operate.{operateName}
 use Rattle.signal.specs.Signal.{Signal, signalAlone}
 use Rattle.position_book.specs.declared.SignalAnswer.{SignalAnswer}
 use Rattle.position_book.specs.declared.OperateAnswer.{OperateAnswer}
-use Rattle.position_book.specs.declared.NameAnswer.{NameAnswer}
 
 -- ---- a signal alone
 
@@ -45,10 +44,6 @@ nameDo code out = do
   name ← operateName code
   _ ← must 8 (leb (length name) (length out))
   Got name
-
-abbrev pub nameAnswer : Answer (List ℕ) → NameAnswer
-nameAnswer (Refused n) = record { number = n; length = 0 }
-nameAnswer (Got name) = record { number = 0; length = length name }
 
 abbrev pub nameBytes : Answer (List ℕ) → List ℕ → List ℕ
 nameBytes (Refused n) out = out

@@ -1,4 +1,4 @@
 -- The definitions of the exported calls.
 pub mod Calls
-pub mod Rows
+pub mod Results
 pub mod Read

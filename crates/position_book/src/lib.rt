@@ -1,18 +1,37 @@
 // The exported calls. Each takes numbers and byte slices of any kind, and answers a number of document 01 with its values.
+use answer::FeedAnswer;
+use answer::HoldAnswer;
+use answer::NameAnswer;
+use answer::PairAnswer;
+use answer::feed_answer;
+use answer::hold_answer;
+use answer::name_answer;
+use answer::pair_answer;
+use compile::compile;
+use feed::feed_bar;
+use holds::hold_row;
 use operate::OperateAlone;
+use pairs::pair_row;
 use signal::SignalAlone;
 use signal::SignalAt;
+use store::fresh;
+use store::restore;
+use store::save;
 use text::put_part;
+use titles::event_name;
 ghost use mathlib.Core.Path.{_≡_};
 ghost use Prim.Native.Nat.{_≤_};
 ghost use lib.ListN.{length};
 ghost use Rattle.operate.specs.Operate.{operateAlone};
 ghost use Rattle.text.specs.Answer.{Refused};
 ghost use Rattle.signal.specs.Read.{SignalOk};
-ghost use Rattle.position_book.specs.Calls.{signalDo, signalAnswer, signalBytes, operateAnswer, nameDo, nameAnswer, nameBytes};
+ghost use Rattle.table.specs.Compile.{compileDo};
+ghost use Rattle.book.specs.Calls.{freshDo, feedDo, saveDo, restoreDo};
+ghost use Rattle.rows.specs.Calls.{pairDo, holdDo, eventNameDo};
+ghost use Rattle.answer.specs.Rows.{holdAnswer, nameAnswer};
+ghost use Rattle.position_book.specs.Calls.{signalDo, signalAnswer, signalBytes, operateAnswer, nameDo, nameBytes};
+ghost use Rattle.position_book.specs.Results.{CompileIs, StoreIs, FeedIs, PairIs, EventNameIs};
 ghost use Rattle.position_book.specs.Read.{SignalPut};
-
-pub mod answers;
 
 // What a signal alone says: its score, and the lengths of its key and its three values.
 #[repr(C)]
@@ -30,54 +49,6 @@ pub struct SignalAnswer {
 pub struct OperateAnswer {
     pub number: u32,
     pub code: u32,
-}
-
-// The length of a name.
-#[repr(C)]
-pub struct NameAnswer {
-    pub number: u32,
-    pub length: usize,
-}
-
-// What a feed says: the position after the bar (-1, 0 or 1), whether it changed, and what decided the bar: 0 nothing, 1 an event, 2 the stop,
-// 3 the timeout; the event's index where it is 1.
-#[repr(C)]
-pub struct FeedAnswer {
-    pub number: u32,
-    pub pos: i32,
-    pub changed: u32,
-    pub decision: u32,
-    pub event: u32,
-}
-
-// A pair row: 1 for L or -1 for S, both local times, both prices, the id difference, days, the yield where it is present, and the lengths
-// of symbol, mark and sequence.
-#[repr(C)]
-pub struct PairAnswer {
-    pub number: u32,
-    pub side: i32,
-    pub opened: i64,
-    pub closed: i64,
-    pub from: f64,
-    pub to: f64,
-    pub ids: i64,
-    pub days: f64,
-    pub present: u32,
-    pub bp: f64,
-    pub symbol: usize,
-    pub mark: usize,
-    pub sequence: usize,
-}
-
-// A hold row: its local time, -1, 0 or 1, its price, and the yield where it is present.
-#[repr(C)]
-pub struct HoldAnswer {
-    pub number: u32,
-    pub local: i64,
-    pub pos: i32,
-    pub price: f64,
-    pub present: u32,
-    pub bp: f64,
 }
 
 // A refusal with a number.
@@ -178,4 +149,93 @@ pub extern "C" fn position_book_operate_name(code: u32, out: &mut [u8]) -> NameA
         number: 0,
         length: n,
     }
+}
+
+// Compiles the sheet of a text into the table.
+#[no_mangle]
+pub extern "C" fn position_book_compile(text: &[u8], table: &mut [u8]) -> u32
+    ensures { λ r. ⌜ CompileIs (compileDo (now (text .entry)) (now (table .entry))) (now (table .entry)) (now (table .exit)) r ⌝ }
+{
+    let r = compile(text, table);
+    r.number()
+}
+
+// Makes the book one with no bars.
+#[no_mangle]
+pub extern "C" fn position_book_fresh(book: &mut [u8]) -> u32
+    ensures { λ r. ⌜ StoreIs (freshDo (now (book .entry))) (now (book .entry)) (now (book .exit)) r ⌝ }
+{
+    let r = fresh(book);
+    r.number()
+}
+
+// Feeds a bar and its signals into the book, by the table.
+#[no_mangle]
+pub extern "C" fn position_book_feed(
+    table: &[u8],
+    book: &mut [u8],
+    id: i64,
+    instant: i64,
+    offset: i64,
+    price: f64,
+    signals: &[u8],
+) -> FeedAnswer
+    ensures { λ r. ⌜ FeedIs (feedDo (now (table .entry)) (now (book .entry)) (record { id = id; instant = instant; offset = offset; price = price; signals = now (signals .entry) })) (now (book .entry)) (now (book .exit)) r ⌝ }
+{
+    let r = feed_bar(table, book, id, instant, offset, price, signals);
+    feed_answer(r)
+}
+
+// Copies the book to the image.
+#[no_mangle]
+pub extern "C" fn position_book_save(table: &[u8], book: &[u8], image: &mut [u8]) -> u32
+    ensures { λ r. ⌜ StoreIs (saveDo (now (table .entry)) (now (book .entry)) (now (image .entry))) (now (image .entry)) (now (image .exit)) r ⌝ }
+{
+    let r = save(table, book, image);
+    r.number()
+}
+
+// Copies the image back to the book.
+#[no_mangle]
+pub extern "C" fn position_book_restore(table: &[u8], book: &mut [u8], image: &[u8]) -> u32
+    ensures { λ r. ⌜ StoreIs (restoreDo (now (table .entry)) (now (book .entry)) (now (image .entry))) (now (book .entry)) (now (book .exit)) r ⌝ }
+{
+    let r = restore(table, book, image);
+    r.number()
+}
+
+// A pair row of the book by its index; its symbol, mark and sequence go one after another to the start of the buffer.
+#[no_mangle]
+pub extern "C" fn position_book_pair_row(
+    table: &[u8],
+    book: &[u8],
+    index: i64,
+    buffer: &mut [u8],
+) -> PairAnswer
+    ensures { λ r. ⌜ PairIs (pairDo (now (table .entry)) (now (book .entry)) index (now (buffer .entry))) (now (buffer .entry)) (now (buffer .exit)) r ⌝ }
+{
+    let r = pair_row(table, book, index, buffer);
+    pair_answer(r)
+}
+
+// A hold row of the book by its index.
+#[no_mangle]
+pub extern "C" fn position_book_hold_row(table: &[u8], book: &[u8], index: i64) -> HoldAnswer
+    ensures { λ r. ⌜ r ≡ holdAnswer (holdDo (now (table .entry)) (now (book .entry)) index) ⌝ }
+{
+    let r = hold_row(table, book, index);
+    hold_answer(r)
+}
+
+// The name of an event of the table by its index, to the start of the buffer.
+#[no_mangle]
+pub extern "C" fn position_book_event_name(
+    table: &[u8],
+    index: i64,
+    buffer: &mut [u8],
+) -> NameAnswer
+    ensures { λ r. ⌜ EventNameIs (eventNameDo (now (table .entry)) index (now (buffer .entry))) (now (buffer .entry)) (now (buffer .exit)) r ⌝ }
+{
+    let r = event_name(table, index, buffer);
+    name_answer(r)
 }

@@ -1,0 +1,56 @@
+-- A refusal, as the code tells it by its tag, is its number. Assumes nothing.
+use Prim.Native.Nat.{ℕ}
+use mathlib.Core.Path.{_≡_, refl}
+use mathlib.Core.List.{List, [], _∷_}
+use types.Run.{OneOf, miss}
+use denote.Enum.Declared.{tagOf}
+use Rattle.text.specs.Answer.{Refused, number}
+use Rattle.feed.specs.Feed.{feedOf}
+use Rattle.feed.specs.declared.Feed.{Feed}
+use Rattle.feed.specs.declared.Feed.the-variants as Feed
+use Rattle.feed.proofs.Feed as feed
+use Rattle.pairs.specs.Read.{pairReadOf}
+use Rattle.pairs.specs.declared.PairRead.{PairRead}
+use Rattle.pairs.specs.declared.PairRead.the-variants as Pair
+use Rattle.pairs.proofs.PairRead as pair
+use Rattle.holds.specs.Read.{holdReadOf}
+use Rattle.holds.specs.declared.HoldRead.{HoldRead}
+use Rattle.holds.specs.declared.HoldRead.the-variants as Hold
+use Rattle.holds.proofs.HoldRead as hold
+use Rattle.titles.specs.Read.{nameReadOf}
+use Rattle.titles.specs.declared.NameRead.{NameRead}
+use Rattle.titles.specs.declared.NameRead.the-variants as Name
+use Rattle.titles.proofs.NameRead as name
+
+pub feed-refused : (after : List ℕ) (r : Feed) → OneOf (1 ∷ 2 ∷ 3 ∷ 4 ∷ 5 ∷ 6 ∷ 7 ∷ 8 ∷ 9 ∷ 10 ∷ []) (tagOf feed.the-type r) → Refused (number (feedOf [] r)) ≡ feedOf after r
+feed-refused after (Feed.Done s) h = absurd (miss (1 ∷ 2 ∷ 3 ∷ 4 ∷ 5 ∷ 6 ∷ 7 ∷ 8 ∷ 9 ∷ 10 ∷ []) 0 tt h)
+feed-refused after Feed.WrongLength h = refl
+feed-refused after Feed.NotTable h = refl
+feed-refused after Feed.NotBook h = refl
+feed-refused after Feed.BadBar h = refl
+feed-refused after Feed.PastLimit h = refl
+feed-refused after Feed.NotUtf8 h = refl
+feed-refused after Feed.Malformed h = refl
+feed-refused after Feed.Twice h = refl
+feed-refused after Feed.Late h = refl
+feed-refused after Feed.Full h = refl
+
+pub pair-refused : (r : PairRead) → OneOf (1 ∷ 2 ∷ 3 ∷ 4 ∷ []) (tagOf pair.the-type r) → Refused (number (pairReadOf r)) ≡ pairReadOf r
+pair-refused (Pair.Row p) h = absurd (miss (1 ∷ 2 ∷ 3 ∷ 4 ∷ []) 0 tt h)
+pair-refused Pair.WrongLength h = refl
+pair-refused Pair.NotTable h = refl
+pair-refused Pair.NotBook h = refl
+pair-refused Pair.PastLast h = refl
+
+pub hold-refused : (r : HoldRead) → OneOf (1 ∷ 2 ∷ 3 ∷ 4 ∷ []) (tagOf hold.the-type r) → Refused (number (holdReadOf r)) ≡ holdReadOf r
+hold-refused (Hold.Row o) h = absurd (miss (1 ∷ 2 ∷ 3 ∷ 4 ∷ []) 0 tt h)
+hold-refused Hold.WrongLength h = refl
+hold-refused Hold.NotTable h = refl
+hold-refused Hold.NotBook h = refl
+hold-refused Hold.PastLast h = refl
+
+pub name-refused : (r : NameRead) → OneOf (1 ∷ 2 ∷ 3 ∷ []) (tagOf name.the-type r) → Refused (number (nameReadOf r)) ≡ nameReadOf r
+name-refused (Name.Length n) h = absurd (miss (1 ∷ 2 ∷ 3 ∷ []) 0 tt h)
+name-refused Name.WrongLength h = refl
+name-refused Name.NotTable h = refl
+name-refused Name.PastLast h = refl

@@ -1,0 +1,102 @@
+-- What a feed and the requests for rows and names answer to the host: their numbers and values. "Refused rows carry zeros and absent yields." A
+-- refused feed or name has zeros too. Assumes nothing.
+use Prim.Native.Nat.{ℕ}
+use mathlib.Core.List.{List}
+use lib.IntN.{ℤ, pos, negsuc}
+use lib.Ieee.{Float}
+use lib.ListN.{length}
+use Rattle.text.specs.Answer.{Answer, Refused, Got, _>>=_}
+use Rattle.double.specs.Double.{whole}
+use Rattle.double.specs.declared.Side.{Side}
+use Rattle.double.specs.declared.Side.the-variants.{Long, Short}
+use Rattle.double.specs.declared.Yield.{Yield}
+use Rattle.double.specs.declared.Yield.the-variants.{Absent, Bp}
+use Rattle.position.specs.State.{posSign}
+use Rattle.position.specs.Feed.{Accepted}
+use Rattle.position.specs.declared.HoldRow.{HoldRow}
+use Rattle.position.specs.declared.Decision.{Decision}
+use Rattle.position.specs.declared.Decision.the-variants.{Nothing, By}
+use Rattle.book.specs.Layout.{flag, yieldFlag, descriptionCode, descriptionEvent}
+use Rattle.pairs.specs.declared.PairRow.{PairRow}
+use Rattle.answer.specs.declared.NameAnswer.{NameAnswer}
+use Rattle.answer.specs.declared.FeedAnswer.{FeedAnswer}
+use Rattle.answer.specs.declared.PairAnswer.{PairAnswer}
+use Rattle.answer.specs.declared.HoldAnswer.{HoldAnswer}
+
+-- ---- a feed
+
+-- "1 event, 2 stop, 3 timeout", as a record's description; 0 where nothing decided the bar
+abbrev pub decisionCode : Decision → ℕ
+decisionCode Nothing = 0
+decisionCode (By d) = descriptionCode d
+
+abbrev pub decisionEvent : Decision → ℕ
+decisionEvent Nothing = 0
+decisionEvent (By d) = descriptionEvent d
+
+abbrev pub feedAnswer : Answer (Accepted (List ℕ)) → FeedAnswer
+feedAnswer (Refused n) = record { number = n; pos = pos 0; changed = 0; decision = 0; event = 0 }
+feedAnswer (Got a) =
+    let r = a .report in
+    record { number = 0; pos = posSign (r .pos); changed = flag (r .changed); decision = decisionCode (r .decision); event = decisionEvent (r .decision) }
+
+-- ---- rows
+
+-- "absent": not present, and 0
+abbrev pub yieldValue : Yield → Float
+yieldValue Absent = whole 0
+yieldValue (Bp x) = x
+
+-- "L or S"
+abbrev pub sideSign : Side → ℤ
+sideSign Long = pos 1
+sideSign Short = negsuc 0
+
+abbrev pub pairAnswer : Answer PairRow → PairAnswer
+pairAnswer (Refused n) =
+    record {
+      number = n;
+      side = pos 0;
+      opened = pos 0;
+      closed = pos 0;
+      from = whole 0;
+      to = whole 0;
+      ids = pos 0;
+      days = whole 0;
+      present = 0;
+      bp = whole 0;
+      symbol = 0;
+      mark = 0;
+      sequence = 0;
+    }
+pairAnswer (Got p) =
+    record {
+      number = 0;
+      side = sideSign (p .side);
+      opened = p .opened .0;
+      closed = p .closed .0;
+      from = p .from;
+      to = p .to;
+      ids = p .ids;
+      days = p .days;
+      present = yieldFlag (p .bp);
+      bp = yieldValue (p .bp);
+      symbol = p .symbol;
+      mark = p .mark;
+      sequence = p .sequence;
+    }
+
+abbrev pub holdAnswer : Answer HoldRow → HoldAnswer
+holdAnswer (Refused n) = record { number = n; local = pos 0; pos = pos 0; price = whole 0; present = 0; bp = whole 0 }
+holdAnswer (Got r) =
+    record { number = 0; local = r .local .0; pos = r .pos; price = r .price; present = yieldFlag (r .n1b); bp = yieldValue (r .n1b) }
+
+-- ---- names
+
+-- a name's length, since the buffer has the name
+abbrev pub lengthAnswer : Answer ℕ → NameAnswer
+lengthAnswer (Refused n) = record { number = n; length = 0 }
+lengthAnswer (Got n) = record { number = 0; length = n }
+
+abbrev pub nameAnswer : Answer (List ℕ) → NameAnswer
+nameAnswer a = lengthAnswer (a >>= λ name. Got (length name))

@@ -1,0 +1,61 @@
+-- The whole result of a call, from what the function that it leans on promises and the number or the struct made of its answer. Assumes nothing.
+use Prim.Native.Nat.{ℕ}
+use mathlib.Core.Path.{_≡_, _∙_, refl, ap, subst}
+use mathlib.Core.List.{List, []}
+use lib.IntN.{ℤ}
+use lib.Ieee.{Float}
+use mir.Syntax.{w64}
+use mir.Val.{SFits}
+use mir.Facts.{toZ-ofZ}
+use Rattle.le.proofs.Signs.{back}
+use Rattle.text.specs.Answer.{Answer, number}
+use Rattle.book.specs.Calls.{feedDo}
+use Rattle.rows.specs.Calls.{pairDo, eventNameDo}
+use Rattle.store.specs.Stored.{storedOf, StoredAs}
+use Rattle.store.specs.declared.Stored.{Stored}
+use Rattle.store.specs.declared.Stored.the-variants.{Done, WrongLength, NotTable, NotBook}
+use Rattle.feed.specs.Feed.{feedOf, FeedAs}
+use Rattle.feed.specs.declared.Feed.{Feed}
+use Rattle.pairs.specs.Read.{pairReadOf, PairAs}
+use Rattle.pairs.specs.declared.PairRead.{PairRead}
+use Rattle.titles.specs.Read.{nameReadOf, NameAs}
+use Rattle.titles.specs.declared.NameRead.{NameRead}
+use Rattle.answer.specs.Rows.{feedAnswer, pairAnswer, lengthAnswer}
+use Rattle.answer.specs.declared.FeedAnswer.{FeedAnswer}
+use Rattle.answer.specs.declared.PairAnswer.{PairAnswer}
+use Rattle.answer.specs.declared.NameAnswer.{NameAnswer}
+use Rattle.position_book.specs.Results.{StoreIs, FeedIs, PairIs, EventNameIs}
+
+-- the number does not depend on the bytes
+stored-number : (after : List ℕ) (q : Stored) → number (storedOf [] q) ≡ number (storedOf after q)
+stored-number after Done = refl
+stored-number after WrongLength = refl
+stored-number after NotTable = refl
+stored-number after NotBook = refl
+
+pub store-is : {d : Answer (List ℕ)} {before after : List ℕ} {q : Stored} {r : ℕ} → StoredAs d before after q → r ≡ number (storedOf [] q) → StoreIs d before after r
+store-is {after = after} {q} s e = (e ∙ stored-number after q ∙ ap number (s .is), s .bytes)
+
+-- ---- numbers of 64 bits that are handed on are read back
+
+pub feed-is : {t before after signals : List ℕ} {id instant offset : ℤ} {price : Float} {q : Feed} {r : FeedAnswer} → SFits w64 id → SFits w64 instant → SFits w64 offset
+    → FeedAs t before after (record { id = back w64 id; instant = back w64 instant; offset = back w64 offset; price = price; signals = signals }) q
+    → ((z : List ℕ) → r ≡ feedAnswer (feedOf z q))
+    → FeedIs (feedDo t before (record { id = id; instant = instant; offset = offset; price = price; signals = signals })) before after r
+feed-is {t} {before} {after} {signals} {id} {instant} {offset} {price} {q} F G H f e =
+    let g : FeedAs t before after (record { id = id; instant = instant; offset = offset; price = price; signals = signals }) q =
+    rw (toZ-ofZ {w = w64} F, toZ-ofZ {w = w64} G, toZ-ofZ {w = w64} H) at f in
+    (e after ∙ ap feedAnswer (g .is), g .bytes)
+
+module _ {i : ℤ} (F : SFits w64 i) where
+  pub pair-is : {t b before after : List ℕ} {q : PairRead} {r : PairAnswer} → PairAs t b (back w64 i) before after q → r ≡ pairAnswer (pairReadOf q)
+      → PairIs (pairDo t b i before) before after r
+  pair-is {t} {b} {before} {after} {q} p e =
+      let g = subst (λ (z : ℤ). PairAs t b z before after q) (toZ-ofZ {w = w64} F) p in
+      (e ∙ ap pairAnswer (g .is), g .bytes)
+
+  pub name-is : {t before after : List ℕ} {q : NameRead} {r : NameAnswer} → NameAs t (back w64 i) before after q → r ≡ lengthAnswer (nameReadOf q)
+      → EventNameIs (eventNameDo t i before) before after r
+  name-is {t} {before} {after} {q} p e =
+      let g = subst (λ (z : ℤ). NameAs t z before after q) (toZ-ofZ {w = w64} F) p in
+      (e ∙ ap lengthAnswer (g .is), g .bytes)
