@@ -13,15 +13,14 @@ use Rattle.text.proofs.Same.{same-eq}
 use Rattle.text.proofs.Refusals.{Gives, refuses, gives, Any}
 use Rattle.sheet.specs.Sheet.{Sheet}
 use Rattle.table.specs.Table.{readTable}
-use Rattle.table.proofs.Facts.{table-length, table-events}
-use Rattle.position.specs.State.{State, freshState}
+use Rattle.table.proofs.Facts.{table-length}
+use Rattle.position.specs.State.{State}
 use Rattle.position.specs.Step.{Fed, step, plainFrom, plain}
 use Rattle.position.specs.Feed.{Input, fedOf, admitted, Accepted, reportOf, feedState}
-use Rattle.position.proofs.Steps.{holds-grow, plain-more}
-use Rattle.position.proofs.Reach.{fed-ok, admitted-got, sound-fresh, sound-step}
-use Rattle.book.specs.Layout.{encode, freshBook}
+use Rattle.position.proofs.Steps.{plain-more}
+use Rattle.position.proofs.Reach.{admitted-got}
+use Rattle.book.specs.Layout.{encode}
 use Rattle.book.specs.Calls.{feedDo, feedBytes}
-use Rattle.book.proofs.Lengths.{capacity-range}
 use Rattle.book.proofs.Feeds.{Ready, feed-is}
 use Rattle.book.proofs.Ready.{ready}
 use Rattle.history.specs.Calls.{Fresh, Feed, Save, Restore, answered, after, Past, Unknown, Known, Ledger, add, note, savedAs, ifDone, survive}

@@ -4,17 +4,17 @@ use Prim.Native.Nat.{ℕ, zero, suc, _≤_}
 use native.Mathlib.Omega.{arith}
 use mathlib.Core.Bool.{Bool, true, false, not, cond, false≢true}
 use mathlib.Core.List.{List, [], _∷_, map}
-use mathlib.Core.Option.{Option, none, some}
-use mathlib.Core.Path.{_≡_, refl, sym, ap, subst, _∙_}
+use mathlib.Core.Option.{some}
+use mathlib.Core.Path.{_≡_, sym, ap, subst, _∙_}
 use mathlib.Mathlib.Data.List.Defs.{Forall}
-use mathlib.Mathlib.Data.List.Basic.{forall-cons, Forall·imp}
+use mathlib.Mathlib.Data.List.Basic.{forall-cons}
 use lib.Dec.{T}
 use lib.IntN.{ℤ}
 use lib.Ieee.{Float, nan, inf, fin, isNan}
 use lib.Ieee.Scale.{finite}
 use lib.ListN.{length, getElem?, length-map}
 use Rattle.text.specs.Answer.{given}
-use Rattle.double.specs.Double.{yieldOk, pairYield}
+use Rattle.double.specs.Double.{yieldOk}
 use Rattle.double.specs.declared.Yield.{Yield}
 use Rattle.double.specs.declared.Yield.the-variants.{Absent, Bp}
 use Rattle.double.proofs.Numbers.{pair-number}
@@ -28,7 +28,7 @@ use Rattle.position.specs.declared.Record.{Record}
 use Rattle.position.specs.declared.Hold.{Hold}
 use Rattle.position.specs.declared.HoldRow.{HoldRow}
 use Rattle.position.proofs.Sound.{HoldOk, RecordOk, YieldOk}
-use Rattle.book.specs.Layout.{encode, recordsOf, holdsOf}
+use Rattle.book.specs.Layout.{recordsOf, holdsOf}
 use Rattle.book.proofs.Ready.{holds-kept, records-kept}
 use Rattle.rows.specs.Calls.{rowBuffer, rowAt, pairDo, holdDo}
 use Rattle.history.proofs.Kept.{pair-is, hold-is}

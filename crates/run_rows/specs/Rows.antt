@@ -11,7 +11,6 @@ use Rattle.table.specs.Table.{sheetOf, readTable}
 use Rattle.position.specs.State.{State}
 use Rattle.position.specs.Rows.{Pair, pairsOf, holdRows}
 use Rattle.position.specs.Run.{runBars, pairLine, holdLine}
-use Rattle.position.specs.declared.HoldRow.{HoldRow}
 use Rattle.book.specs.Layout.{recordsOf, holdsOf}
 use Rattle.history.proofs.Invariant.{BookOf}
 use Rattle.run_output.specs.Shown.{ShortPut}

@@ -8,7 +8,7 @@ use run_output::HOLD_ROOM;
 use run_output::PAIR_ROOM;
 use run_output::put_hold;
 use run_output::put_pair;
-ghost use Prim.Native.Nat.{_+_, _*_, _<_, _≤_};
+ghost use Prim.Native.Nat.{_+_, _*_, _≤_};
 ghost use lib.ListN.{length};
 ghost use Rattle.position.specs.Run.{runBars};
 ghost use Rattle.run_output.specs.Shown.{ShortPut};

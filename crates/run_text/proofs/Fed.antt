@@ -1,11 +1,11 @@
 -- The bars that were fed, one by one: their lines, and the book that they leave. Assumes nothing.
-use Prim.Native.Nat.{ℕ, _+_, _*_, _≤_}
+use Prim.Native.Nat.{ℕ, _+_, _*_}
 use native.Mathlib.Omega.{arith}
 use mathlib.Core.List.{List, [], _∷_, _++_, append-assoc, append-nil}
 use mathlib.Core.Path.{_≡_, refl, sym, ap, subst, _∙_}
 use lib.Dec.{T}
 use lib.Ieee.{binary64, fits}
-use lib.ListN.{length, replicate, length-replicate}
+use lib.ListN.{length, replicate}
 use Rattle.text.specs.Answer.{Got, number}
 use Rattle.text.specs.Read.{Put}
 use Rattle.text.proofs.Put.{put-none, put-put}
@@ -15,7 +15,7 @@ use Rattle.position.specs.State.{State, freshState}
 use Rattle.position.specs.Feed.{Input, feedState}
 use Rattle.position.specs.Cases.{stateAfter}
 use Rattle.position.specs.Run.{runBars, feedLine, nextState, feedAll}
-use Rattle.book.specs.Layout.{headOf, encode, freshBook}
+use Rattle.book.specs.Layout.{headOf}
 use Rattle.book.specs.Calls.{feedDo, feedBytes}
 use Rattle.book.proofs.Lengths.{length-encode}
 use Rattle.book.proofs.Parts.{head-read}
@@ -23,7 +23,6 @@ use Rattle.book.proofs.Passes.{head-fits}
 use Rattle.history.proofs.Invariant.{BookOf}
 use Rattle.history.proofs.Answered.{Cleared}
 use Rattle.history.proofs.Booked.{Next, cleared, cleared-bars, fed-next}
-use Rattle.run_output.specs.Shown.{ShortPut}
 use Rattle.run_rows.specs.Rows.{Booked}
 use Rattle.run_text.specs.Steps.{fedLines, Held, FedAll, barLineOf, FedOne}
 

@@ -1,9 +1,8 @@
 -- What a line of the input does to the bars before it. Assumes nothing.
-use Prim.Native.Nat.{ℕ, _+_, _-_, _*_, _≤_, _<_}
+use Prim.Native.Nat.{ℕ, _+_, _-_, _≤_, _<_}
 use native.Mathlib.Omega.{arith}
-use mathlib.Core.List.{List, [], _∷_, _++_, append-nil, append-assoc}
+use mathlib.Core.List.{List, [], _∷_, _++_, append-nil}
 use mathlib.Core.Path.{_≡_, refl, sym, ap, subst, _∙_}
-use lib.Dec.{T}
 use lib.ListN.{length, take, drop, length-append}
 use lib.Seq.{slice, length-slice, length-take-le, take-append-seam, take-append-add, drop-append-le, drop-drop}
 use Rattle.le.specs.Le.{patch}
@@ -14,8 +13,8 @@ use Rattle.text.proofs.Laws.{part-take}
 use Rattle.text.proofs.Lines.{linesFrom, lines-next, lines-cut, lines-end}
 use Rattle.sheet.specs.Sheet.{Sheet}
 use Rattle.position.specs.Feed.{Input}
-use Rattle.position.specs.Run.{addSignal, inputLine, Asked, readInput}
-use Rattle.run_input.specs.Lines.{inputOf, lineDo, LineAs}
+use Rattle.position.specs.Run.{addSignal, inputLine, readInput}
+use Rattle.run_input.specs.Lines.{inputOf, LineAs}
 use Rattle.run_input.specs.declared.BarLine.{BarLine}
 use Rattle.run_input.specs.declared.InputLine.the-variants as InputLine
 use Rattle.run_input.proofs.Seek.{part-first}

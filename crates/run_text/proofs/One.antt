@@ -1,7 +1,7 @@
 -- One bar: its feed and its line make what is said of it. Assumes nothing.
 use Prim.Native.Nat.{ℕ, _+_, _-_, _≤_}
 use mathlib.Core.List.{List, [], _∷_, _++_}
-use mathlib.Core.Path.{_≡_, refl, sym, ap, subst, _∙_}
+use mathlib.Core.Path.{_≡_, refl, ap, subst, _∙_}
 use lib.Dec.{T}
 use lib.IntN.{ℤ}
 use lib.Ieee.{binary64, fits}
@@ -10,12 +10,12 @@ use mir.Syntax.{w32, w64}
 use mir.Val.{SFits}
 use mir.Facts.{toZ-ofZ}
 use Rattle.le.proofs.Signs.{back}
-use Rattle.text.specs.Answer.{Answer, number}
+use Rattle.text.specs.Answer.{number}
 use Rattle.text.specs.Literal.{bytes}
 use Rattle.text.specs.Number.{decimalOf, integerOf}
 use Rattle.text.specs.Read.{Put}
 use Rattle.position.specs.State.{posSign}
-use Rattle.position.specs.Feed.{Input, Accepted}
+use Rattle.position.specs.Feed.{Input}
 use Rattle.position.specs.Run.{line, flagText}
 use Rattle.position.specs.declared.Head.{Head}
 use Rattle.book.specs.Layout.{headOf}

@@ -1,12 +1,10 @@
 -- From the input's bytes to the printed bytes: what is refused, what is begun, and what the parts that were printed make. Assumes nothing.
 use Prim.Native.Nat.{ℕ, _+_, _*_, _≤_, _<_}
 use native.Mathlib.Omega.{arith}
-use mathlib.Core.Bool.{true, false}
-use mathlib.Core.List.{List, [], _∷_, _++_, append-assoc, flatMap}
+use mathlib.Core.List.{List, [], _∷_, append-assoc, flatMap}
 use mathlib.Core.Logic.{_≢_}
 use mathlib.Core.Option.{none, some}
 use mathlib.Core.Path.{_≡_, refl, sym, ap, subst, _∙_}
-use lib.Dec.{leb, eqb}
 use lib.ListN.{length, take, replicate}
 use borrow.Author.Tests.{le-leb, lt-leb, eq-eqb}
 use Rattle.text.specs.Answer.{Answer, Refused, Got, number}
@@ -25,9 +23,9 @@ use Rattle.table.specs.Compile.{compileDo, Compiled, Means}
 use Rattle.compile.specs.Outcome.{numberOf, CompiledAs}
 use Rattle.compile.specs.declared.Outcome.{Outcome}
 use Rattle.position.specs.State.{freshState}
-use Rattle.position.specs.Rows.{Pair, pairsOf, holdRows}
+use Rattle.position.specs.Rows.{pairsOf, holdRows}
 use Rattle.position.specs.Cases.{stateAfter}
-use Rattle.position.specs.Run.{runBars, inputLimit, cut, ended, inputLine, readInput, line, pairLine, holdLine, feedAll, runDo}
+use Rattle.position.specs.Run.{runBars, inputLimit, cut, inputLine, readInput, line, pairLine, holdLine, feedAll, runDo}
 use Rattle.position.specs.declared.Hold.{Hold}
 use Rattle.book.specs.Layout.{capacity, freshBook, holdsOf}
 use Rattle.book.specs.Calls.{freshDo}
@@ -39,7 +37,7 @@ use Rattle.run_input.specs.Lines.{CutAt}
 use Rattle.run_output.specs.Shown.{ShortPut}
 use Rattle.run_rows.specs.Rows.{Booked, pairRows, pairLines, holdLines, pairRoom, holdRoom}
 use Rattle.run_rows.proofs.Asked.{pairs-are, holds-are}
-use Rattle.run_text.specs.Steps.{outputRoom, fedLines, asked, starting, Running, AllFed, Begun}
+use Rattle.run_text.specs.Steps.{outputRoom, asked, starting, Running, AllFed, Begun}
 use Rattle.run_text.proofs.Fed.{fed-all, fed-none, booked}
 
 -- 0 is said only where something is got

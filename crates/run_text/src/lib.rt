@@ -24,7 +24,7 @@ ghost use Prim.Native.Nat.{_+_, _<_, _≤_};
 ghost use lib.Dec.{T};
 ghost use lib.Ieee.{binary64, fits};
 ghost use lib.ListN.{length, take, replicate};
-ghost use Rattle.text.specs.Read.{Part, FirstAt, Put};
+ghost use Rattle.text.specs.Read.{FirstAt, Put};
 ghost use Rattle.text.specs.Text.{LF};
 ghost use Rattle.position.specs.Run.{runDo};
 ghost use Rattle.run_input.specs.Lines.{inputOf};
