@@ -8,7 +8,7 @@ use lib.ListN.{length, getD, set, take, drop, length-set, drop-of-length-le}
 use lib.Seq.{take-suc-set, take-all}
 use Rattle.list.specs.Numbered.{numbered}
 use Rattle.utf8.specs.Alone.{textLimit}
-use Rattle.fine.proofs.Joined.{total, total-next}
+use Rattle.text.proofs.Joined.{total, total-next}
 use Rattle.wordbook.specs.Wordbook.{wordsAt}
 use Rattle.wordbook.specs.declared.Noted.{Noted}
 use Rattle.wordbook.proofs.Books.{book-empty}

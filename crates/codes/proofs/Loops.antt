@@ -5,7 +5,7 @@ use mathlib.Core.Path.{refl}
 use mathlib.Core.List.{List, []}
 use lib.ListN.{length, getD, set}
 use Rattle.utf8.specs.Alone.{textLimit}
-use Rattle.fine.proofs.Joined.{total-next}
+use Rattle.text.proofs.Joined.{total-next}
 use Rattle.wordbook.specs.declared.Noted.{Noted}
 use Rattle.draft.specs.Codes.{keysIn, valuesIn, notedAll, numbersOf, valuesNoted, codesOf}
 use Rattle.draft.proofs.Clauses.{words-weight}

@@ -1,15 +1,16 @@
--- No yield of finite prices is a NaN. Assumes nothing.
+-- No yield of finite prices is a NaN, nor are days. Assumes nothing.
 use Prim.Native.Nat.{ℕ, zero, suc, _+_, _-_, _*_, _<_}
 use mathlib.Core.Path.{_≡_, refl, sym, subst}
 use mathlib.Core.Bool.{Bool, true, false, not, _&&_, _||_, Bool·beq, cond}
 use lib.Dec.{T, ltb, ltb→lt, eqb·suc-zero}
 use native.Mathlib.Omega.{arith}
 use lib.Ieee.{Float, Format, nan, inf, fin, binary64, isNan, round, sum, add, sub, mul, div, neg, lt, up, down, unlike, ofInt}
+use lib.IntN.{ℤ, pos, negsuc}
 use lib.Ieee.Scale.{finite}
 use Rattle.double.specs.declared.Side.{Side}
 use Rattle.double.specs.declared.Side.the-variants.{Long, Short}
 use Rattle.double.specs.declared.Yield.the-variants.{Absent, Bp}
-use Rattle.double.specs.Double.{whole, _−_, _×ᶠ_, _÷_, isZero, half, roundAway, gain, holdYield, pairYield, yieldOk}
+use Rattle.double.specs.Double.{whole, _−_, _×ᶠ_, _÷_, isZero, half, roundAway, gain, holdYield, pairYield, yieldOk, daysOf}
 use Rattle.double.proofs.Branches.{both}
 use Rattle.double.proofs.Signs.{Signed, round-signed}
 
@@ -130,3 +131,13 @@ pair-number side opening closing f g = go (isZero opening) refl
         let n = mul-number x (whole 10000) (gain-number side closing opening g (finite-number opening f) e) tt refl in
         let r = roundAway (x ×ᶠ whole 10000 ×ᶠ whole 100) in
         div-number r (whole 100) (away-number (x ×ᶠ whole 10000 ×ᶠ whole 100) (mul-number (x ×ᶠ whole 10000) (whole 100) n tt refl)) (finite-number (whole 100) tt) refl (or-right (finite r) (finite (whole 100)) tt)
+
+-- a pair's days
+int-number : (z : ℤ) → Number (ofInt binary64 z)
+unfolding ofInt
+int-number (pos n) = round-number binary64 false n 1
+int-number (negsuc n) = round-number binary64 true (suc n) 1
+
+pub days-number : (z : ℤ) → T (not (isNan (daysOf z)))
+unfolding daysOf ofInt
+days-number z = div-number (ofInt binary64 z) (whole 86400) (int-number z) (finite-number (whole 86400) tt) refl (or-right (finite (ofInt binary64 z)) (finite (whole 86400)) tt)

@@ -17,7 +17,7 @@ use Rattle.sheet.specs.Places.{clauseNumbers, clauseAt, ClauseOk}
 use Rattle.words.specs.Words.{wordOk, keyParts}
 use Rattle.fine.specs.Fine.{valueOk, fineClause, clauseWeight, clausesWeight}
 use Rattle.text.proofs.Every.{every-cons, cons-every, every-append, every-three}
-use Rattle.fine.proofs.Joined.{total}
+use Rattle.text.proofs.Joined.{total}
 use Rattle.fine.proofs.Facts.{clause-facts}
 use Rattle.table.specs.Table.{clauseOk, keyUses, valueUses, clausesOk, clauseOf}
 use Rattle.table.specs.declared.ClauseRow.{ClauseRow}

@@ -12,7 +12,7 @@ use Rattle.text.proofs.Same.{same-eq}
 use Rattle.signal.specs.Signal.{wildcard, withoutWild}
 use Rattle.words.specs.Words.{isWild}
 use Rattle.text.proofs.Every.{every-cons, cons-every, every-append}
-use Rattle.fine.proofs.Joined.{total}
+use Rattle.text.proofs.Joined.{total}
 use Rattle.wordbook.specs.Wordbook.{numberOf, noted}
 use Rattle.wordbook.proofs.Numbers.{number-le, noted-at, noted-kept, number-below}
 use Rattle.table.specs.Table.{wildCode, codeOk, useOf, inOrder, textAt}

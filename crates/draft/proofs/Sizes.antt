@@ -10,7 +10,7 @@ use Rattle.utf8.specs.Alone.{textLimit}
 use Rattle.sheet.specs.Places.{clausesAt, sheetAt}
 use Rattle.sheet.specs.declared.SheetAt.{SheetAt}
 use Rattle.fine.specs.Fine.{fineSheet}
-use Rattle.fine.proofs.Joined.{total}
+use Rattle.text.proofs.Joined.{total}
 use Rattle.fine.proofs.Facts.{sheet-facts}
 use Rattle.fine.proofs.Clauses.{all-weight}
 use Rattle.draft.specs.Codes.{keysIn, valuesIn}

@@ -14,7 +14,7 @@ use Rattle.text.specs.Conditions.{every}
 use Rattle.text.proofs.Conditions.{_also_, none-left, sure}
 use Rattle.text.proofs.Laws.{part-size}
 use Rattle.words.specs.Words.{wordOk}
-use Rattle.fine.proofs.Joined.{total}
+use Rattle.text.proofs.Joined.{total}
 use Rattle.wordbook.specs.Wordbook.{wordAt, wordsAt, Book}
 use Rattle.wordbook.proofs.Books.{words-length, starts-rise, book-lined, book-distinct}
 use Rattle.table.specs.Layout.{wordText}

@@ -1,12 +1,11 @@
 -- Fields written one behind another, and what the code of a field gives. Assumes nothing.
 use Prim.Native.Nat.{ℕ, zero, suc, _+_, _≤_}
 use native.Mathlib.Omega.{arith}
-use mathlib.Core.Path.{_≡_, refl, sym, ap, _∙_, subst}
-use mathlib.Core.Bool.{Bool, true, false, not, cond, false≢true}
+use mathlib.Core.Path.{_≡_, refl, ap, subst}
+use mathlib.Core.Bool.{true, false, not, false≢true}
 use mathlib.Core.Logic.{_≢_}
 use mathlib.Core.List.{List, _++_}
-use lib.Ieee.{Float, nan, inf, fin, isNan, binary64, ofBits, nanBits, div}
-use lib.Ieee.Bits.{nanBits-is}
+use lib.Ieee.{Float, nan, inf, fin, isNan}
 use lib.Ieee.Scale.{finite}
 use lib.Dec.{T}
 use lib.IntN.{ℤ}
@@ -15,10 +14,6 @@ use lib.ListN.{length}
 use mir.Syntax.{w32}
 use mir.Facts.{toZ-ofZ}
 use Rattle.le.specs.Le.{patch, leBytes}
-use Rattle.le.specs.Real.{realOf}
-use Rattle.le.specs.declared.Real.{Real}
-use Rattle.le.specs.declared.Real.the-variants.{Value, Nan}
-use Rattle.le.proofs.Reals.{real-nan}
 use Rattle.le.proofs.Signs.{back}
 use Rattle.text.specs.Read.{Put}
 use Rattle.text.proofs.Put.{put-patch, put-put}
@@ -52,33 +47,6 @@ not-nan (inf s) h = tt
 not-nan (fin s m e) h = tt
 
 -- ---- reading
-
--- what bits hold, where it is a double
-pub value-is : (n : ℕ) {x : Float} → realOf n ≡ Value x → x ≡ ofBits binary64 n
-unfolding realOf
-value-is n {x} e = go (nanBits binary64 n) e
-  where
-    held : Real → Float
-    held (Value y) = y
-    held Nan = ofBits binary64 n
-
-    go : (t : Bool) → cond t Nan (Value (ofBits binary64 n)) ≡ Value x → x ≡ ofBits binary64 n
-    go true e = sym (ap held e)
-    go false e = sym (ap held e)
-
-zeros : div binary64 (ofBits binary64 0) (ofBits binary64 0) ≡ nan
-unfolding ofBits div
-zeros = refl
-
-only-nan : (x : Float) → isNan x ≡ true → nan ≡ x
-unfolding isNan
-only-nan nan h = refl
-only-nan (inf s) h = absurd (false≢true h)
-only-nan (fin s m e) h = absurd (false≢true h)
-
--- a NaN's bits give the NaN that 0 / 0 gives
-pub nan-is : (n : ℕ) → realOf n ≡ Nan → div binary64 (ofBits binary64 0) (ofBits binary64 0) ≡ ofBits binary64 n
-nan-is n e = zeros ∙ only-nan (ofBits binary64 n) (sym (nanBits-is binary64 n) ∙ real-nan n .1 e)
 
 -- a code that is neither 0 nor 1
 pub long-is : (n : ℕ) → n ≢ 0 → n ≢ 1 → Long ≡ posAt n

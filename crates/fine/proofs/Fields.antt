@@ -23,7 +23,7 @@ use Rattle.sheet.specs.Read.{name}
 use Rattle.words.specs.Words.{clean}
 use Rattle.fine.specs.Fine.{valueOk, operateLimit, fineClause, clauseWeight}
 use Rattle.text.proofs.Every.{every-three}
-use Rattle.fine.proofs.Joined.{lacks, total-next, split-length}
+use Rattle.text.proofs.Joined.{lacks, total-next, split-length}
 use Rattle.fine.proofs.Lines.{part-clean, part-lacks}
 use Rattle.fine.proofs.Words.{value-ok, key-ok, key-length}
 use Rattle.fine.proofs.Facts.{clause-sure}

@@ -1,5 +1,4 @@
--- Laws of texts that are split and joined, and the theorem that every sheet that can be read is fine.
-pub mod Joined
+-- Laws of sheets' lines, and the theorem that every sheet that can be read is fine.
 pub mod Parted
 pub mod Lines
 pub mod Words

@@ -13,7 +13,7 @@ use Rattle.text.proofs.Refusals.{Gives, refuses, gives, then-with}
 use Rattle.utf8.specs.Utf8.{utf8}
 use Rattle.words.specs.Words.{clean}
 use Rattle.text.proofs.Every.{every-at}
-use Rattle.fine.proofs.Joined.{lacks, split-lacks, total}
+use Rattle.text.proofs.Joined.{lacks, split-lacks, total}
 use Rattle.fine.proofs.Parted.{Parted, split-at, utf8-parted, lacks-parted, two-parted, same-parted}
 
 -- a line without its LF

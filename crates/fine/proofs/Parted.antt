@@ -10,7 +10,7 @@ use Rattle.text.specs.Text.{has, split, joined}
 use Rattle.utf8.specs.Utf8.{right, utf8}
 use Rattle.utf8.proofs.Joined.{utf8-around}
 use Rattle.text.proofs.Every.{every-one, every-and, every-at}
-use Rattle.fine.proofs.Joined.{lacks, joined-more, joined-split}
+use Rattle.text.proofs.Joined.{lacks, joined-more, joined-split}
 
 -- f holds of a text exactly when it holds in front of a b and behind it
 pub record Parted (b : ℕ) (f : List ℕ → Bool) : Type 0 where

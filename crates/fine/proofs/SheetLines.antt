@@ -18,7 +18,7 @@ use Rattle.sheet.specs.Read.{name, positionLine, withEvents, anyExit, eventLine
 use Rattle.words.specs.Words.{clean}
 use Rattle.fine.specs.Fine.{operateLimit, fineEvent, eventsWeight, clausesWeight, weight}
 use Rattle.text.proofs.Every.{every-one, every-append}
-use Rattle.fine.proofs.Joined.{total-next, split-length}
+use Rattle.text.proofs.Joined.{total-next, split-length}
 use Rattle.fine.proofs.Lines.{Line, field-at}
 use Rattle.fine.proofs.Given.{must-test, either-gives}
 use Rattle.fine.proofs.Facts.{event-sure, SheetFacts}

@@ -13,7 +13,7 @@ use Rattle.utf8.specs.Alone.{textLimit}
 use Rattle.sheet.specs.Sheet.{Sheet}
 use Rattle.sheet.specs.Read.{sheetLine, readSheet}
 use Rattle.fine.specs.Fine.{fineSheet}
-use Rattle.fine.proofs.Joined.{split-length}
+use Rattle.text.proofs.Joined.{split-length}
 use Rattle.fine.proofs.Lines.{Line, line-at, lines-keep}
 use Rattle.fine.proofs.Given.{got-has}
 use Rattle.fine.proofs.Facts.{sheet-sure}

@@ -14,7 +14,7 @@ use Rattle.signal.specs.Signal.{wildcard, withoutWild, keyOf}
 use Rattle.words.specs.Words.{clean, isWild, wordOk, keyParts, valueParts}
 use Rattle.fine.specs.Fine.{valueOk}
 use Rattle.text.proofs.Every.{every-one, cons-every, every-cons}
-use Rattle.fine.proofs.Joined.{lacks, total, split-joined, joined-length}
+use Rattle.text.proofs.Joined.{lacks, total, split-joined, joined-length}
 use Rattle.fine.proofs.Parted.{joined-every}
 use Rattle.fine.proofs.Lines.{clean-parted}
 

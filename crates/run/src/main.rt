@@ -1,16 +1,17 @@
 // The run program: reads a sheet, a line `-` and bars from standard input, and prints what each bar and the book then say.
 use libc::STDIN_FILENO;
 use libc::STDOUT_FILENO;
+use run_text::INPUT_ROOM;
 use run_text::OUTPUT_ROOM;
 use run_text::run;
 ghost use mathlib.Core.Path.{_≡_};
 ghost use lib.ListN.{length};
 
-// Room for one byte more than an input may have. Only the length is told, which lending asks for.
-fn paper_in() -> [u8; 65_537]
+// Room for an input, and to tell a longer one. Only the length is told, which lending asks for.
+fn paper_in() -> [u8; INPUT_ROOM]
     ensures { λ r. ⌜ 65537 ≡ length r ⌝ }
 {
-    [0u8; 65_537]
+    [0u8; INPUT_ROOM]
 }
 
 // Room for every output.

@@ -10,26 +10,13 @@ use lib.ListN.{length, take, drop, length-append, take-append-drop}
 use lib.Seq.{slice, length-slice, length-take-le, take-at}
 use Rattle.text.specs.Literal.{bytes, encoded}
 use Rattle.text.specs.Read.{Part, FirstAt}
-use Rattle.text.specs.Text.{LF, same, split, joined}
+use Rattle.text.specs.Text.{LF, same, split}
 use Rattle.text.proofs.Laws.{part-nil, part-end}
 use Rattle.text.proofs.Parts.{split-some, split-next, split-last}
 use Rattle.text.proofs.Same.{same-eq}
-use Rattle.fine.proofs.Joined.{joined-more, joined-split}
+use Rattle.text.proofs.Joined.{part-first}
 use Rattle.position.specs.Run.{Cut, behind, cut, ended}
 use Rattle.run_input.specs.Lines.{CutAt}
-
--- ---- a part up to a separator
-
-joined-first : (b : ℕ) (p t : List ℕ) → joined (b ∷ []) (p ∷ split b t) ≡ p ++ b ∷ t
-joined-first b p t = go (split b t) (split-some b t) (joined-split b t)
-  where
-    go : (ps : List (List ℕ)) → 1 ≤ length ps → joined (b ∷ []) ps ≡ t → joined (b ∷ []) (p ∷ ps) ≡ p ++ b ∷ t
-    go [] h e = absurd (omega arith)
-    go (q ∷ ps) h e = joined-more b p q ps ∙ ap (λ l. p ++ b ∷ l) e
-
-pub part-first : {s : List ℕ} {from to b r : ℕ} → Part s from to → FirstAt s from to b r → r < to → slice from to s ≡ slice from r s ++ b ∷ slice (r + 1) to s
-part-first {s} {from} {to} {b} {r} p f h =
-    sym (joined-split b (slice from to s)) ∙ ap (joined (b ∷ [])) (split-next p f h) ∙ joined-first b (slice from r s) (slice (r + 1) to s)
 
 -- ---- lines in front of those of a sheet
 

@@ -15,7 +15,7 @@ use Rattle.text.specs.Read.{Part, FirstAt}
 use Rattle.text.specs.Text.{LF, pipe, same, split, joined}
 use Rattle.text.proofs.Parts.{split-next, split-last}
 use Rattle.text.proofs.Same.{same-eq}
-use Rattle.fine.proofs.Joined.{joined-more, joined-split}
+use Rattle.text.proofs.Joined.{joined-more, joined-split}
 use Rattle.sheet.proofs.Fields.{Cut, cut}
 use Rattle.position.specs.Feed.{Input}
 use Rattle.position.specs.Run.{barLine, addSignal, inputLine}

@@ -12,11 +12,22 @@ use Rattle.double.specs.declared.Yield.{Yield}
 use Rattle.double.specs.declared.Yield.the-variants.{Absent, Bp}
 use Rattle.position.specs.Rows.{Pair}
 use Rattle.position.specs.declared.HoldRow.{HoldRow}
+use Rattle.rows.specs.Calls.{rowBuffer}
 use Rattle.pairs.specs.declared.PairRow.{PairRow}
 
 -- fields that others follow
 unfoldable pub fieldsText : List (List ℕ) → List ℕ
 fieldsText fields = flatMap (λ p. p ++ pipe ∷ []) fields
+
+-- room for every line: of a feed or a refusal, of a pair row, of a hold row
+abbrev pub feedRoom : ℕ
+feedRoom = 64
+
+abbrev pub pairRoom : ℕ
+pairRoom = 2304
+
+abbrev pub holdRoom : ℕ
+holdRoom = 128
 
 -- the text t was written, of at most n bytes
 pub record ShortPut (n : ℕ) (before after : List ℕ) (at : ℕ) (t : List ℕ) (r : ℕ) : Type 0 where
@@ -54,4 +65,4 @@ pub record PairShown (r : PairRow) (buffer : List ℕ) : Type 0 where
   pub days : T (not (isNan (r .days)))
   pub bp : YieldShown (r .bp)
   pub texts : r .symbol + r .mark + r .sequence ≤ length buffer
-  pub short : length buffer ≤ 2048
+  pub short : length buffer ≤ rowBuffer

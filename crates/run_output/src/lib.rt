@@ -22,7 +22,7 @@ ghost use Rattle.text.specs.Number.{decimalOf, integerOf};
 ghost use Rattle.text.specs.Read.{Part, Put};
 ghost use Rattle.text.specs.Text.{pipe};
 ghost use Rattle.position.specs.Run.{line, hexBits, yieldText, sideText, flagText, pairLine, holdLine};
-ghost use Rattle.run_output.specs.Shown.{pairIn, fieldsText, ShortPut, YieldShown, HoldShown, PairShown};
+ghost use Rattle.run_output.specs.Shown.{feedRoom, pairRoom, holdRoom, pairIn, fieldsText, ShortPut, YieldShown, HoldShown, PairShown};
 
 // The most bytes of a line: of a feed or a refusal, of a pair row, of a hold row.
 pub const FEED_ROOM: usize = 64;
@@ -136,7 +136,7 @@ fn last_yield(out: &mut [u8], at: usize, y: Yield) -> usize
 
 // `E|number`.
 pub fn put_refusal(out: &mut [u8], at: usize, number: u32) -> usize
-    requires { ⌜ at + 64 ≤ length (now out) ⌝ }
+    requires { ⌜ at + feedRoom ≤ length (now out) ⌝ }
     ensures { λ r. ⌜ Put (now (out .entry)) (now (out .exit)) at (line (bytes "E" ∷ decimalOf number ∷ [])) r ⌝ }
 {
     let a = text_field(out, at, b"E", 0, 1);
@@ -146,7 +146,7 @@ pub fn put_refusal(out: &mut [u8], at: usize, number: u32) -> usize
 
 // `F|answer|pos|changed`.
 pub fn put_feed(out: &mut [u8], at: usize, number: u32, pos: i32, changed: bool) -> usize
-    requires { ⌜ at + 64 ≤ length (now out) ⌝ }
+    requires { ⌜ at + feedRoom ≤ length (now out) ⌝ }
     ensures { λ r. ⌜ Put (now (out .entry)) (now (out .exit)) at (line (bytes "F" ∷ decimalOf number ∷ integerOf pos ∷ flagText changed ∷ [])) r ⌝ }
 {
     let a = text_field(out, at, b"F", 0, 1);
@@ -158,7 +158,7 @@ pub fn put_feed(out: &mut [u8], at: usize, number: u32, pos: i32, changed: bool)
 
 // `H|local|pos|price|yield`.
 pub fn put_hold(out: &mut [u8], at: usize, o: HoldRow) -> usize
-    requires { ⌜ at + 128 ≤ length (now out) ⌝ }
+    requires { ⌜ at + holdRoom ≤ length (now out) ⌝ }
     requires { ⌜ HoldShown o ⌝ }
     ensures { λ r. ⌜ Put (now (out .entry)) (now (out .exit)) at (holdLine o) r ⌝ }
 {
@@ -205,7 +205,7 @@ fn pair_names(out: &mut [u8], at: usize, p: PairRow, buffer: &[u8]) -> usize
 
 // `R|symbol|mark|side|opened|closed|from|to|ids|sequence|days|yield`, with the texts of the row buffer.
 pub fn put_pair(out: &mut [u8], at: usize, p: PairRow, buffer: &[u8]) -> usize
-    requires { ⌜ at + 2304 ≤ length (now out) ⌝ }
+    requires { ⌜ at + pairRoom ≤ length (now out) ⌝ }
     requires { ⌜ PairShown p (now buffer) ⌝ }
     ensures { λ r. ⌜ Put (now (out .entry)) (now (out .exit)) at (pairLine (pairIn p (now (buffer .entry)))) r ⌝ }
 {

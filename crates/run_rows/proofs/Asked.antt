@@ -2,7 +2,7 @@
 -- Assumes nothing.
 use Prim.Native.Nat.{ℕ, zero, suc, _≤_}
 use native.Mathlib.Omega.{arith}
-use mathlib.Core.Bool.{Bool, true, false, not, cond, false≢true}
+use mathlib.Core.Bool.{Bool, true, false, not, cond}
 use mathlib.Core.List.{List, [], _∷_, map}
 use mathlib.Core.Option.{some}
 use mathlib.Core.Path.{_≡_, sym, ap, subst, _∙_}
@@ -10,14 +10,14 @@ use mathlib.Mathlib.Data.List.Defs.{Forall}
 use mathlib.Mathlib.Data.List.Basic.{forall-cons}
 use lib.Dec.{T}
 use lib.IntN.{ℤ}
-use lib.Ieee.{Float, nan, inf, fin, isNan}
+use lib.Ieee.{isNan}
 use lib.Ieee.Scale.{finite}
 use lib.ListN.{length, getElem?, length-map}
 use Rattle.text.specs.Answer.{given}
 use Rattle.double.specs.Double.{yieldOk}
 use Rattle.double.specs.declared.Yield.{Yield}
 use Rattle.double.specs.declared.Yield.the-variants.{Absent, Bp}
-use Rattle.double.proofs.Numbers.{pair-number}
+use Rattle.double.proofs.Numbers.{pair-number, days-number}
 use Rattle.bar.specs.Time.{secondsBetween}
 use Rattle.sheet.specs.Sheet.{Sheet}
 use Rattle.table.proofs.Facts.{read-is}
@@ -30,10 +30,10 @@ use Rattle.position.specs.declared.HoldRow.{HoldRow}
 use Rattle.position.proofs.Sound.{HoldOk, RecordOk, YieldOk}
 use Rattle.book.specs.Layout.{recordsOf, holdsOf}
 use Rattle.book.proofs.Ready.{holds-kept, records-kept}
+use Rattle.field.proofs.Laws.{not-nan}
 use Rattle.rows.specs.Calls.{rowBuffer, rowAt, pairDo, holdDo}
 use Rattle.history.proofs.Kept.{pair-is, hold-is}
 use Rattle.run_rows.specs.Rows.{Booked, pairRows}
-use Rattle.run_rows.proofs.Numbers.{days-number}
 
 -- ---- lists of rows
 
@@ -54,20 +54,14 @@ pub record PairNumbers (p : Pair) : Type 0 where
   pub days : T (not (isNan (p .days)))
   pub bp : T (yieldOk (p .yield))
 
-finite-number : (x : Float) → finite x ≡ true → T (not (isNan x))
-unfolding isNan
-finite-number nan e = absurd (false≢true e)
-finite-number (inf t) e = tt
-finite-number (fin t m e) h = tt
-
 pair-numbers : (s : Sheet) (a b : Record) → RecordOk s a → RecordOk s b → PairNumbers (pairOf s a b)
 unfolding pairOf
 pair-numbers s a b p q =
     let u : T (finite (a .bar .price)) = rw (p .bar .price) tt in
     let v : T (finite (b .bar .price)) = rw (q .bar .price) tt in
     record {
-      from = finite-number (a .bar .price) (p .bar .price);
-      to = finite-number (b .bar .price) (q .bar .price);
+      from = not-nan (a .bar .price) (p .bar .price);
+      to = not-nan (b .bar .price) (q .bar .price);
       days = days-number (secondsBetween (a .bar .time .instant .0) (b .bar .time .instant .0));
       bp = pair-number (sideOf a) (a .bar .price) (b .bar .price) u v;
     }
@@ -97,7 +91,7 @@ yield-number (Bp x) h = rw (h .0) tt
 
 hold-numbers : (o : Hold) → HoldOk o → HoldNumbers (holdRow o)
 unfolding holdRow
-hold-numbers o h = record { price = finite-number (o .price) (h .price); n1b = yield-number (o .n1b) (h .n1b) }
+hold-numbers o h = record { price = not-nan (o .price) (h .price); n1b = yield-number (o .n1b) (h .n1b) }
 
 holds-numbers : (os : List Hold) → Forall HoldOk os → Forall HoldNumbers (holdRows os)
 unfolding holdRows Forall

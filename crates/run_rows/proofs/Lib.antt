@@ -1,6 +1,5 @@
 -- The laws of `run_rows`.
 pub mod Listed
-pub mod Numbers
 pub mod Asked
 pub mod Lent
 pub mod One

@@ -13,7 +13,7 @@ use Rattle.position.specs.Rows.{Pair, pairsOf, holdRows}
 use Rattle.position.specs.Run.{runBars, pairLine, holdLine}
 use Rattle.book.specs.Layout.{recordsOf, holdsOf}
 use Rattle.history.proofs.Invariant.{BookOf}
-use Rattle.run_output.specs.Shown.{ShortPut}
+use Rattle.run_output.specs.Shown.{pairRoom, holdRoom, ShortPut}
 use Rattle.run_rows.specs.declared.Added.{Added}
 use Rattle.run_rows.specs.declared.Added.the-variants.{Next, NoRow}
 
@@ -39,13 +39,6 @@ unfoldable pub holdLines : List ℕ → List ℕ
 holdLines b = flatMap holdLine (holdRows (holdsOf b))
 
 -- ---- printed one behind another
-
--- the most bytes of a line: of a pair row, of a hold row
-abbrev pub pairRoom : ℕ
-pairRoom = 2304
-
-abbrev pub holdRoom : ℕ
-holdRoom = 128
 
 -- row number i was printed, or there is none
 abbrev pub RowAdded : {X : Type 0} → List X → (X → List ℕ) → ℕ → ℕ → List ℕ → List ℕ → ℕ → Added → Type 0

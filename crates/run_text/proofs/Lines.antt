@@ -9,6 +9,7 @@ use Rattle.le.specs.Le.{patch}
 use Rattle.text.specs.Answer.{Answer, Refused, Got, _>>=_}
 use Rattle.text.specs.Read.{Part, FirstAt, Put}
 use Rattle.text.specs.Text.{LF, pipe, split}
+use Rattle.text.proofs.Joined.{part-first}
 use Rattle.text.proofs.Laws.{part-take}
 use Rattle.text.proofs.Lines.{linesFrom, lines-next, lines-cut, lines-end}
 use Rattle.sheet.specs.Sheet.{Sheet}
@@ -17,9 +18,9 @@ use Rattle.position.specs.Run.{addSignal, inputLine, readInput}
 use Rattle.run_input.specs.Lines.{inputOf, LineAs}
 use Rattle.run_input.specs.declared.BarLine.{BarLine}
 use Rattle.run_input.specs.declared.InputLine.the-variants as InputLine
-use Rattle.run_input.proofs.Seek.{part-first}
+use Rattle.run_output.specs.Shown.{feedRoom}
 use Rattle.run_rows.specs.Rows.{Booked}
-use Rattle.run_text.specs.Steps.{feedRoom, FedAll, waitingInput, WaitingOk, waitingRoom, FedWaiting, First, IsBar, asked, Running, SignalPut, SignalAdded, TakenAs, AllFed}
+use Rattle.run_text.specs.Steps.{FedAll, waitingInput, WaitingOk, waitingRoom, FedWaiting, First, IsBar, asked, Running, SignalPut, SignalAdded, TakenAs, AllFed}
 use Rattle.run_text.specs.declared.Waiting.{Waiting}
 use Rattle.run_text.specs.declared.Waiting.the-variants.{Bar, Nothing}
 use Rattle.run_text.specs.declared.Progress.{Progress}

@@ -27,7 +27,8 @@ use Rattle.run_input.specs.Lines.{inputOf}
 use Rattle.run_input.specs.declared.BarLine.{BarLine}
 use Rattle.run_rows.specs.Rows.{Booked}
 use Rattle.run_rows.proofs.Lent.{lent-put}
-use Rattle.run_text.specs.Steps.{feedRoom, FedOne}
+use Rattle.run_output.specs.Shown.{feedRoom}
+use Rattle.run_text.specs.Steps.{FedOne}
 use Rattle.run_text.proofs.Fed.{booked-next, book-long}
 
 -- the number of a feed's answer, whatever its bytes

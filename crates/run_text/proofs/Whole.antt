@@ -34,8 +34,8 @@ use Rattle.store.specs.Stored.{StoredAs}
 use Rattle.store.specs.declared.Stored.{Stored}
 use Rattle.history.proofs.Answered.{compile-gives}
 use Rattle.run_input.specs.Lines.{CutAt}
-use Rattle.run_output.specs.Shown.{ShortPut}
-use Rattle.run_rows.specs.Rows.{Booked, pairRows, pairLines, holdLines, pairRoom, holdRoom}
+use Rattle.run_output.specs.Shown.{pairRoom, holdRoom, ShortPut}
+use Rattle.run_rows.specs.Rows.{Booked, pairRows, pairLines, holdLines}
 use Rattle.run_rows.proofs.Asked.{pairs-are, holds-are}
 use Rattle.run_text.specs.Steps.{outputRoom, asked, starting, Running, AllFed, Begun}
 use Rattle.run_text.proofs.Fed.{fed-all, fed-none, booked}

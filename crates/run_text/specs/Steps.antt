@@ -21,7 +21,7 @@ use Rattle.book.specs.Layout.{headOf}
 use Rattle.book.specs.Calls.{feedDo, feedBytes}
 use Rattle.history.proofs.Invariant.{BookOf}
 use Rattle.run_input.specs.Lines.{inputOf}
-use Rattle.run_output.specs.Shown.{ShortPut}
+use Rattle.run_output.specs.Shown.{feedRoom, ShortPut}
 use Rattle.run_text.specs.declared.Waiting.{Waiting}
 use Rattle.run_text.specs.declared.Waiting.the-variants.{Bar, Nothing}
 use Rattle.run_text.specs.declared.Progress.{Progress}
@@ -30,10 +30,7 @@ use Rattle.run_text.specs.declared.Taken.the-variants as Taken
 use Rattle.run_text.specs.declared.Ran.{Ran}
 use Rattle.run_text.specs.declared.Ran.the-variants as Ran
 
--- the most bytes of an F line, and room for every output
-abbrev pub feedRoom : ℕ
-feedRoom = 64
-
+-- room for every output
 abbrev pub outputRoom : ℕ
 outputRoom = 2500000
 

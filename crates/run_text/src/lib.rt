@@ -1,4 +1,6 @@
 // The run program's work: from the bytes of its input to the bytes that it prints.
+use book::ENTRY_LENGTH;
+use book::HEAD_LENGTH;
 use compile::compile;
 use feed::feed_bar;
 use field::pos_sign;
@@ -28,14 +30,19 @@ ghost use Rattle.text.specs.Read.{FirstAt, Put};
 ghost use Rattle.text.specs.Text.{LF};
 ghost use Rattle.position.specs.Run.{runDo};
 ghost use Rattle.run_input.specs.Lines.{inputOf};
+ghost use Rattle.run_output.specs.Shown.{feedRoom};
 ghost use Rattle.run_rows.specs.Rows.{Booked};
-ghost use Rattle.run_text.specs.Steps.{feedRoom, outputRoom, WaitingOk, FedOne, FedWaiting, SignalAdded, starting, Running, TakenAs, Begun, FedAs, RanAs};
+ghost use Rattle.run_text.specs.Steps.{outputRoom, WaitingOk, FedOne, FedWaiting, SignalAdded, starting, Running, TakenAs, Begun, FedAs, RanAs};
 
-// The most bytes of an input, the bytes of a book of 900 bars, and the room that every output has.
+// The most bytes of an input, and one more, so that a longer one is told.
 pub const INPUT_LIMIT: usize = 65_536;
 
-const BOOK_LENGTH: usize = 57_696;
+pub const INPUT_ROOM: usize = INPUT_LIMIT + 1;
 
+// The bytes of a book of 900 bars.
+const BOOK_LENGTH: usize = HEAD_LENGTH + 2 * ENTRY_LENGTH * 900;
+
+// Room for every output.
 pub const OUTPUT_ROOM: usize = 2_500_000;
 
 // The bar that waits for its signals, or none before the first bar.

@@ -2,7 +2,7 @@
 use mathlib.Core.Path.{_∙_, sym}
 use Rattle.le.specs.Field.{u64}
 use borrow.Author.Needs.{needs}
-use Rattle.field.proofs.Laws.{value-is, nan-is}
+use Rattle.le.proofs.Reals.{value-is, nan-is}
 use Rattle.field.proofs.double_at.Statement.{statement}
 use Rattle.field.proofs.double_at.Tie as tie
 

@@ -1,6 +1,6 @@
 -- A double's bits, or the NaN that 0 / 0 gives. Assumes nothing.
 use mathlib.Core.Path.{_∙_, sym}
-use Rattle.field.proofs.Laws.{value-is, nan-is}
+use Rattle.le.proofs.Reals.{value-is, nan-is}
 use borrow.Author.Needs.{needs}
 use Rattle.run_input.proofs.double_of.Statement.{statement}
 use Rattle.run_input.proofs.double_of.Tie as tie

@@ -2,7 +2,7 @@
 use native.Mathlib.Omega.{arith}
 use mathlib.Core.Path.{refl, ap}
 use Rattle.pairs.specs.Read.{pairReadOf}
-use Rattle.run_rows.specs.Rows.{pairRoom}
+use Rattle.run_output.specs.Shown.{pairRoom}
 use Rattle.run_rows.proofs.Lent.{lent-room}
 use Rattle.run_rows.proofs.One.{no-pair, pair-ready, pair-printed}
 use borrow.Author.Needs.{needs}

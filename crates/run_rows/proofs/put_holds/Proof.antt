@@ -6,7 +6,8 @@ use lib.ListN.{length}
 use Rattle.position.specs.Rows.{holdRows}
 use Rattle.position.specs.Run.{holdLine}
 use Rattle.book.specs.Layout.{holdsOf}
-use Rattle.run_rows.specs.Rows.{holdLines, holdRoom}
+use Rattle.run_output.specs.Shown.{holdRoom}
+use Rattle.run_rows.specs.Rows.{holdLines}
 use Rattle.run_rows.proofs.Asked.{holds-within}
 use Rattle.run_rows.proofs.Listed.{Listed, listed-none, listed-room, listed-next, listed-last}
 use Rattle.run_rows.proofs.put_holds.Statement.{statement}

@@ -4,7 +4,8 @@ use native.Mathlib.Omega.{arith}
 use borrow.Author.Needs.{needs}
 use lib.ListN.{length}
 use Rattle.position.specs.Run.{pairLine}
-use Rattle.run_rows.specs.Rows.{pairRows, pairLines, pairRoom}
+use Rattle.run_output.specs.Shown.{pairRoom}
+use Rattle.run_rows.specs.Rows.{pairRows, pairLines}
 use Rattle.run_rows.proofs.Asked.{pairs-within}
 use Rattle.run_rows.proofs.Listed.{Listed, listed-none, listed-room, listed-next, listed-last}
 use Rattle.run_rows.proofs.put_pairs.Statement.{statement}

@@ -1,5 +1,5 @@
 -- Parts joined by a separator, and a text split at it: the one undoes the other. Assumes nothing.
-use Prim.Native.Nat.{ℕ, zero, suc, _+_, _-_, _≤_}
+use Prim.Native.Nat.{ℕ, zero, suc, _+_, _-_, _≤_, _<_}
 use native.Mathlib.Omega.{arith}
 use mathlib.Core.Bool.{Bool, true, false, not, cond, _||_, false≢true}
 use mathlib.Core.List.{List, [], _∷_, _++_, append-assoc}
@@ -7,10 +7,12 @@ use mathlib.Core.Path.{_≡_, refl, sym, _∙_, ap, ap₂}
 use borrow.Author.Tests.{eqb-true, eq-eqb}
 use lib.Dec.{eqb}
 use lib.ListN.{length, getD, drop, length-append}
+use lib.Seq.{slice}
 use Rattle.text.specs.Conditions.{every}
+use Rattle.text.specs.Read.{Part, FirstAt}
 use Rattle.text.specs.Text.{has, onto, split, joined}
-use Rattle.text.proofs.Parts.{split-some}
+use Rattle.text.proofs.Parts.{split-some, split-next}
 use Rattle.text.proofs.Every.{every-cons}
 
 pub joined-more : (b : ℕ) (p q : List ℕ) (ps : List (List ℕ)) → joined (b ∷ []) (p ∷ q ∷ ps) ≡ p ++ b ∷ joined (b ∷ []) (q ∷ ps)
 unfolding joined
@@ -108,3 +110,16 @@ joined-length b (p ∷ q ∷ ps) =
 
 pub split-length : (b : ℕ) (s : List ℕ) → length s ≡ total (split b s) + (length (split b s) - 1)
 split-length b s = ap length (sym (joined-split b s)) ∙ joined-length b (split b s)
+
+-- ---- a part up to a separator
+
+joined-first : (b : ℕ) (p t : List ℕ) → joined (b ∷ []) (p ∷ split b t) ≡ p ++ b ∷ t
+joined-first b p t = go (split b t) (split-some b t) (joined-split b t)
+  where
+    go : (ps : List (List ℕ)) → 1 ≤ length ps → joined (b ∷ []) ps ≡ t → joined (b ∷ []) (p ∷ ps) ≡ p ++ b ∷ t
+    go [] h e = absurd (omega arith)
+    go (q ∷ ps) h e = joined-more b p q ps ∙ ap (λ l. p ++ b ∷ l) e
+
+pub part-first : {s : List ℕ} {from to b r : ℕ} → Part s from to → FirstAt s from to b r → r < to → slice from to s ≡ slice from r s ++ b ∷ slice (r + 1) to s
+part-first {s} {from} {to} {b} {r} p f h =
+    sym (joined-split b (slice from to s)) ∙ ap (joined (b ∷ [])) (split-next p f h) ∙ joined-first b (slice from r s) (slice (r + 1) to s)
