@@ -18,7 +18,7 @@ fn read(path: &str) -> String {
 }
 
 /// What stands between the first `open` after `from` and the `close` behind it.
-fn between<'a>(text: &'a str, from: usize, open: char, close: char) -> &'a str {
+fn between(text: &str, from: usize, open: char, close: char) -> &str {
     let start = from + text[from..].find(open).unwrap() + 1;
     let end = start + text[start..].find(close).unwrap();
     &text[start..end]
