@@ -1,0 +1,43 @@
+//! Seeded inputs for the position book: sheets, seasons of bars, signals and operates alone.
+//!
+//! A season is valid in document 01's sense, and aimed at the boundaries that it names: whole seconds around the interval, ids around the
+//! timeout, prices around the stop, local midnights, late bars, wildcards, scores of every form. `damage` makes wrong bytes of right ones,
+//! `shrink` makes a small season of a large one. The same seed gives the same inputs.
+
+mod alone;
+mod bars;
+mod damage;
+mod rng;
+mod season;
+mod sheets;
+mod shrink;
+mod signals;
+mod words;
+
+pub use alone::{operate, signal};
+pub use damage::damage;
+pub use rng::Rng;
+pub use season::{Bar, Clause, Event, Kind, Season, Sheet, Step};
+pub use shrink::shrink;
+
+/// The last instant that a bar may have, in microseconds from 1970 UTC.
+pub const LAST_INSTANT: i64 = 4_102_444_799_999_999;
+/// The largest offset of a bar, in seconds, on both sides of 0.
+pub const LAST_OFFSET: i64 = 86_399;
+/// The last id of a bar.
+pub const LAST_ID: i64 = 2_147_483_647;
+/// The most bytes of a text.
+pub const TEXT_LIMIT: usize = 16_384;
+/// The most events of a sheet.
+pub const EVENT_LIMIT: usize = 32;
+/// The most clauses of a sheet, and the most signals of a bar.
+pub const LINE_LIMIT: usize = 256;
+/// The most bytes of a name or a symbol.
+pub const NAME_LIMIT: usize = 256;
+
+/// A valid season: a sheet, and the bars that are fed, with a save and a restore here and there.
+pub fn season(rng: &mut Rng) -> Season {
+    let sheet = sheets::sheet(rng);
+    let steps = bars::steps(rng, &sheet);
+    Season { sheet, steps }
+}

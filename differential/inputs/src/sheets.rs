@@ -1,0 +1,134 @@
+//! Valid sheets.
+
+use crate::season::{Clause, Event, Kind, Sheet};
+use crate::{EVENT_LIMIT, LINE_LIMIT, Rng, TEXT_LIMIT, words};
+
+/// A sheet: mostly a few events over a few keys, now and then one of the largest size.
+pub fn sheet(rng: &mut Rng) -> Sheet {
+    let mut sheet = settings(rng);
+    let large = rng.once_in(150);
+    let keys = key_pool(rng, if large { 60 } else { 4 });
+    let openings = if large { 20 } else { rng.below(5) };
+    let events = if large {
+        EVENT_LIMIT
+    } else {
+        openings + rng.below(5)
+    };
+    for index in 0..events {
+        sheet.events.push(event(rng, &keys, index >= openings));
+    }
+    if large {
+        grow(rng, &mut sheet, &keys);
+    }
+    sheet
+}
+
+fn settings(rng: &mut Rng) -> Sheet {
+    Sheet {
+        name: words::name(rng),
+        symbol: words::name(rng),
+        interval: interval(rng),
+        timeout: timeout(rng),
+        stop: stop(rng),
+        t0: rng.once_in(2),
+        padded: rng.once_in(10),
+        events: Vec::new(),
+    }
+}
+
+fn interval(rng: &mut Rng) -> i64 {
+    match rng.below(8) {
+        0 => rng.between(0, 200_000),
+        1 => 4_102_444_800,
+        _ => *rng.pick(&[0, 0, 1, 10, 60, 86_400]),
+    }
+}
+
+fn timeout(rng: &mut Rng) -> i64 {
+    match rng.below(8) {
+        0 => rng.between(0, 100),
+        1 => *rng.pick(&[2_147_483_647, 2_147_483_646]),
+        _ => *rng.pick(&[0, 1, 2, 3, 5]),
+    }
+}
+
+fn stop(rng: &mut Rng) -> i64 {
+    match rng.below(8) {
+        0 => rng.between(0, 1_000_000),
+        1 => *rng.pick(&[1_000_000, 9_999, 10_000, 10_001, 20_000]),
+        _ => *rng.pick(&[0, 1, 100, 250, 300, 500, 1_000]),
+    }
+}
+
+/// Some keys, each of three parts.
+fn key_pool(rng: &mut Rng, most: usize) -> Vec<[String; 3]> {
+    let count = 1 + rng.below(most);
+    (0..count)
+        .map(|_| std::array::from_fn(|_| words::key_part(rng)))
+        .collect()
+}
+
+fn event(rng: &mut Rng, keys: &[[String; 3]], exit: bool) -> Event {
+    let clauses = if rng.once_in(12) { 0 } else { 1 + rng.below(3) };
+    Event {
+        exit,
+        operate: operate(rng, exit),
+        name: words::name(rng),
+        clauses: (0..clauses).map(|_| clause(rng, keys)).collect(),
+    }
+}
+
+/// An operate in one of its spellings: mostly one that opens in an opening and one that closes in an exit, sometimes any.
+fn operate(rng: &mut Rng, exit: bool) -> String {
+    let code = match (rng.below(4), exit) {
+        (0, _) => rng.below(7),
+        (_, false) => *rng.pick(&[3, 5]),
+        (_, true) => *rng.pick(&[4, 6]),
+    };
+    rng.pick(&words::OPERATES[code]).to_string()
+}
+
+fn clause(rng: &mut Rng, keys: &[[String; 3]]) -> Clause {
+    let [k1, k2, k3] = rng.pick(keys).clone();
+    let [v1, v2, v3] = std::array::from_fn(|_| words::value(rng));
+    Clause {
+        kind: *rng.pick(&[Kind::All, Kind::All, Kind::Any, Kind::Any, Kind::Not]),
+        parts: [k1, k2, k3, v1, v2, v3, words::clause_score(rng)],
+    }
+}
+
+/// Adds clauses up to the limit, or up to the text's, and then often fills the text to its last byte.
+fn grow(rng: &mut Rng, sheet: &mut Sheet, keys: &[[String; 3]]) {
+    let mut clauses = sheet.clauses().count();
+    let mut length = sheet.text().len();
+    while clauses < LINE_LIMIT {
+        let clause = clause(rng, keys);
+        let line = clause.signal().len() + 3;
+        if length + line > TEXT_LIMIT {
+            break;
+        }
+        rng_event(rng, sheet).clauses.push(clause);
+        clauses += 1;
+        length += line;
+    }
+    if rng.once_in(2) {
+        fill(sheet, length);
+    }
+}
+
+fn rng_event<'a>(rng: &mut Rng, sheet: &'a mut Sheet) -> &'a mut Event {
+    let index = rng.below(sheet.events.len());
+    &mut sheet.events[index]
+}
+
+/// Makes a key's part so long that the sheet's text, of `length` bytes now, has as many bytes as a text may have.
+fn fill(sheet: &mut Sheet, length: usize) {
+    let missing = TEXT_LIMIT.saturating_sub(length);
+    let clause = sheet
+        .events
+        .iter_mut()
+        .find_map(|event| event.clauses.first_mut());
+    if let Some(clause) = clause {
+        clause.parts[1].push_str(&"x".repeat(missing));
+    }
+}
