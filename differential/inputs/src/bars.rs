@@ -6,7 +6,7 @@ use crate::{LAST_ID, LAST_INSTANT, LAST_OFFSET, Rng, signals};
 const SECOND: i64 = 1_000_000;
 const DAY: i64 = 86_400 * SECOND;
 
-/// What the next bar is set against: the bars before it as a restore leaves them, and how many there were at the last save.
+/// What the next bar is set against: the accepted bars before it as a restore leaves them, and how many there were at the last save.
 struct Past {
     bars: Vec<Bar>,
     saved: Option<usize>,
@@ -21,53 +21,69 @@ enum Prices {
     Bits,
 }
 
+/// What the bars of a season have in common: how prices are made, the usual offset, and whether bars follow each other within the interval.
+struct Habits {
+    prices: Prices,
+    offset: i64,
+    dense: bool,
+}
+
 /// The steps of a season: mostly some ten bars, now and then many.
 pub fn steps(rng: &mut Rng, sheet: &Sheet) -> Vec<Step> {
     let mut past = Past {
         bars: Vec::new(),
         saved: None,
     };
-    let prices = *rng.pick(&[
-        Prices::Market,
-        Prices::Market,
-        Prices::Few,
-        Prices::Edges,
-        Prices::Bits,
-    ]);
-    let offset = offset(rng);
+    let habits = Habits {
+        prices: *rng.pick(&[
+            Prices::Market,
+            Prices::Market,
+            Prices::Few,
+            Prices::Edges,
+            Prices::Bits,
+        ]),
+        offset: offset(rng),
+        dense: rng.once_in(3),
+    };
     let count = match rng.below(100) {
         0 => 0,
         1 => 60 + rng.below(60),
         _ => 1 + rng.below(20),
     };
     (0..count)
-        .map(|_| step(rng, sheet, &mut past, prices, offset))
+        .map(|_| step(rng, sheet, &mut past, &habits))
         .collect()
 }
 
-fn step(rng: &mut Rng, sheet: &Sheet, past: &mut Past, prices: Prices, offset: i64) -> Step {
+fn step(rng: &mut Rng, sheet: &Sheet, past: &mut Past, habits: &Habits) -> Step {
     match (rng.below(40), past.saved) {
         (0 | 1, _) => {
             past.saved = Some(past.bars.len());
             Step::Save
         }
-        (2, Some(count)) => {
+        (2 | 3, Some(count)) => {
             past.bars.truncate(count);
             Step::Restore
         }
         _ => {
-            let bar = bar(rng, sheet, &past.bars, prices, offset);
-            past.bars.push(bar.clone());
+            let bar = bar(rng, sheet, &past.bars, habits);
+            if past
+                .bars
+                .last()
+                .is_none_or(|last| last.instant < bar.instant)
+            {
+                past.bars.push(bar.clone());
+            }
             Step::Feed(bar)
         }
     }
 }
 
-fn bar(rng: &mut Rng, sheet: &Sheet, past: &[Bar], prices: Prices, offset: i64) -> Bar {
+fn bar(rng: &mut Rng, sheet: &Sheet, past: &[Bar], habits: &Habits) -> Bar {
     let offset = if rng.once_in(8) {
-        self::offset(rng)
+        offset(rng)
     } else {
-        offset
+        habits.offset
     };
     let signals = signals::signals(rng, sheet);
     let Some(last) = past.last() else {
@@ -75,16 +91,21 @@ fn bar(rng: &mut Rng, sheet: &Sheet, past: &[Bar], prices: Prices, offset: i64) 
             id: first_id(rng),
             instant: first_instant(rng, offset),
             offset,
-            price: price(rng, prices),
+            price: price(rng, habits.prices),
             signals,
         };
     };
     let anchor = rng.pick(past);
+    let instant = if habits.dense && !rng.once_in(4) {
+        dense_instant(rng, sheet, past)
+    } else {
+        next_instant(rng, sheet, last, anchor, offset)
+    };
     Bar {
         id: next_id(rng, sheet, last, anchor),
-        instant: next_instant(rng, sheet, last, anchor, offset),
+        instant,
         offset,
-        price: next_price(rng, sheet, anchor, prices),
+        price: next_price(rng, sheet, anchor, habits.prices),
         signals,
     }
 }
@@ -114,13 +135,7 @@ fn next_id(rng: &mut Rng, sheet: &Sheet, last: &Bar, anchor: &Bar) -> i64 {
 
 fn first_instant(rng: &mut Rng, offset: i64) -> i64 {
     let instant = match rng.below(6) {
-        0 => *rng.pick(&[
-            0,
-            1,
-            LAST_INSTANT - DAY,
-            LAST_INSTANT - SECOND,
-            LAST_INSTANT,
-        ]),
+        0 => *rng.pick(&[0, 0, 1, LAST_INSTANT - 9 * DAY, LAST_INSTANT - SECOND]),
         1 => rng.between(0, LAST_INSTANT),
         2 => 20 * DAY - offset * SECOND - rng.between(0, 1),
         _ => 20_000 * DAY + rng.between(0, DAY),
@@ -133,7 +148,7 @@ fn next_instant(rng: &mut Rng, sheet: &Sheet, last: &Bar, anchor: &Bar, offset: 
     let end = last.instant;
     let local = end + offset * SECOND;
     let midnight = (local.div_euclid(DAY) + 1) * DAY - offset * SECOND;
-    let near = *rng.pick(&[-SECOND, -1, 0, 1, 900_000, SECOND - 1, SECOND, SECOND + 1]);
+    let near = near(rng);
     let instant = match rng.below(16) {
         0 => return *rng.pick(&[end, (end - 1).max(0), anchor.instant]),
         1 => end + 1,
@@ -144,12 +159,32 @@ fn next_instant(rng: &mut Rng, sheet: &Sheet, last: &Bar, anchor: &Bar, offset: 
         10 => end + rng.between(1, 400 * DAY),
         _ => end + rng.between(1, DAY),
     };
-    let later = if instant > end {
-        instant
+    later(rng, end, instant)
+}
+
+/// An instant within the interval, or near its end after one of the last four bars.
+fn dense_instant(rng: &mut Rng, sheet: &Sheet, past: &[Bar]) -> i64 {
+    let recent = &past[past.len().saturating_sub(4)..];
+    let end = past[past.len() - 1].instant;
+    let instant = if rng.once_in(2) {
+        end + rng.between(1, sheet.interval * SECOND / 4 + 1)
     } else {
-        end + rng.between(1, 20 * SECOND)
+        rng.pick(recent).instant + sheet.interval * SECOND + near(rng)
     };
-    later.clamp(0, LAST_INSTANT)
+    later(rng, end, instant)
+}
+
+/// Some microseconds around a limit of whole seconds.
+fn near(rng: &mut Rng) -> i64 {
+    *rng.pick(&[-SECOND, -1, 0, 1, 900_000, SECOND - 1, SECOND, SECOND + 1])
+}
+
+/// The instant if it is later than the end and in range, else one soon after the end.
+fn later(rng: &mut Rng, end: i64, instant: i64) -> i64 {
+    if (end + 1..=LAST_INSTANT).contains(&instant) {
+        return instant;
+    }
+    (end + rng.between(1, 20 * SECOND)).min(LAST_INSTANT)
 }
 
 /// A price that the stop is just met by, from an earlier bar's; or one of the season's kind.

@@ -69,7 +69,7 @@ fn key_pool(rng: &mut Rng, most: usize) -> Vec<[String; 3]> {
 }
 
 fn event(rng: &mut Rng, keys: &[[String; 3]], exit: bool) -> Event {
-    let clauses = if rng.once_in(12) { 0 } else { 1 + rng.below(3) };
+    let clauses = if rng.once_in(30) { 0 } else { 1 + rng.below(3) };
     Event {
         exit,
         operate: operate(rng, exit),

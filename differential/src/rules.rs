@@ -1,0 +1,255 @@
+//! Which rules of document 01 the inputs reach, counted bar by bar and row by row.
+
+use crate::counts::Counts;
+use crate::shown::{Hold, PairRow, Shown};
+use chrono::{DateTime, FixedOffset};
+use inputs::{Bar, Event, Sheet};
+use position_book::raw::{self, FeedAnswer};
+use reference::objects::position::{OperateRecord, Pos, PositionRuntimeState};
+
+/// An accepted bar, and the Rust's state before and after it.
+pub struct Moment<'a> {
+    pub sheet: &'a Sheet,
+    pub bar: &'a Bar,
+    pub answer: FeedAnswer,
+    pub before: &'a PositionRuntimeState,
+    pub after: &'a PositionRuntimeState,
+}
+
+type Time = DateTime<FixedOffset>;
+
+const OF_A_BAR: [(&str, fn(&Moment) -> bool); 26] = [
+    ("no event matches", |m| m.answer.decision == 0),
+    ("an event without clauses matches", |m| {
+        m.event().is_some_and(|event| event.clauses.is_empty())
+    }),
+    ("an event with an empty key matches", |m| {
+        m.event()
+            .is_some_and(|event| event.clauses.iter().any(|clause| clause.key().is_empty()))
+    }),
+    ("an exit event opens", |m| {
+        m.event().is_some_and(|event| event.exit) && m.opens().is_some()
+    }),
+    ("an opening event closes", |m| {
+        m.event().is_some_and(|event| !event.exit) && m.closes().is_some()
+    }),
+    ("HL, HS or HO", |m| m.operate().is_some_and(|code| code < 3)),
+    ("long opened from flat", |m| m.goes(Pos::Flat, Pos::Long)),
+    ("short opened from flat", |m| m.goes(Pos::Flat, Pos::Short)),
+    ("long reversed", |m| m.goes(Pos::Long, Pos::Short)),
+    ("short reversed", |m| m.goes(Pos::Short, Pos::Long)),
+    ("opening on the side held", |m| {
+        m.opens() == Some(m.before.pos)
+    }),
+    ("opening refused by the interval", |m| m.is_interval_short()),
+    ("whole seconds equal to the interval, the rest cut", |m| {
+        m.is_interval_short() && m.is_cut_to_the_interval()
+    }),
+    ("whole seconds one above the interval", |m| {
+        m.seconds() == Some(m.sheet.interval + 1) && m.record().is_some()
+    }),
+    ("refused opening closes the other side", |m| {
+        m.is_interval_short() && m.record().is_some()
+    }),
+    ("refused opening leaves the other side on its day", |m| {
+        m.is_interval_short() && m.is_held()
+    }),
+    ("closed by an event", |m| {
+        m.closes() == Some(m.before.pos) && !m.is_held()
+    }),
+    ("closed by the stop", |m| m.answer.decision == 2),
+    ("closed by the timeout", |m| m.answer.decision == 3),
+    ("exit refused on the day of its opening", |m| {
+        m.closes() == Some(m.before.pos) && m.is_held()
+    }),
+    ("exit with nothing to close", |m| {
+        m.closes().is_some_and(|side| side != m.before.pos)
+    }),
+    ("loss equal to the stop", |m| {
+        m.is_held() && m.gain() == Some(-(m.sheet.stop as f64) / 10_000.0)
+    }),
+    ("id gap equal to the timeout", |m| {
+        m.is_held() && m.id_gap() == Some(m.sheet.timeout)
+    }),
+    ("id below the reference's", |m| {
+        m.is_held() && m.id_gap().is_some_and(|gap| gap < 0)
+    }),
+    ("closed on another local day of the same UTC day", |m| {
+        m.days() == Some((true, false)) && m.after.pos == Pos::Flat
+    }),
+    ("kept on the same local day of another UTC day", |m| {
+        m.days() == Some((false, true)) && m.is_held() && m.closes() == Some(m.before.pos)
+    }),
+];
+
+const OF_A_PAIR: [(&str, fn(&PairRow) -> bool); 14] = [
+    ("pair long", |pair| pair.long),
+    ("pair short", |pair| !pair.long),
+    ("pair whose ids fall", |pair| pair.ids < 0),
+    ("pair yield absent", |pair| pair.bp.is_none()),
+    ("pair yield infinite", |pair| {
+        pair.bp.is_some_and(is_infinite)
+    }),
+    ("pair yield -0", |pair| pair.bp == Some((-0.0f64).to_bits())),
+    ("sequence with a stop", |pair| {
+        pair.sequence.contains("BP止损")
+    }),
+    ("sequence with a timeout", |pair| {
+        pair.sequence.contains("K超时")
+    }),
+    ("sequence with @LO", |pair| pair.sequence.contains("@LO")),
+    ("sequence with @SO", |pair| pair.sequence.contains("@SO")),
+    ("sequence with @LE", |pair| pair.sequence.contains("@LE")),
+    ("sequence with @SE", |pair| pair.sequence.contains("@SE")),
+    ("sequence with @is_match", |pair| {
+        pair.sequence.contains("@is_match")
+    }),
+    ("sequence with a name's own @", |pair| {
+        pair.sequence.contains("a@b")
+    }),
+];
+
+const OF_A_HOLD: [(&str, fn(&Hold) -> bool); 3] = [
+    ("hold yield", |hold| hold.bp.is_some()),
+    ("hold yield absent", |hold| hold.bp.is_none()),
+    ("hold yield infinite", |hold| {
+        hold.bp.is_some_and(is_infinite)
+    }),
+];
+
+/// A late bar after one that changed the position: changed stays.
+pub const LATE_AFTER_A_CHANGE: &str = "late bar after a change";
+
+/// The names of all rules.
+pub fn names() -> impl Iterator<Item = &'static str> {
+    let bars = OF_A_BAR
+        .iter()
+        .map(|rule| rule.0)
+        .chain([LATE_AFTER_A_CHANGE]);
+    let pairs = OF_A_PAIR.iter().map(|rule| rule.0);
+    bars.chain(pairs).chain(OF_A_HOLD.iter().map(|rule| rule.0))
+}
+
+pub fn count_bar(moment: &Moment, counts: &mut Counts) {
+    for (name, holds) in OF_A_BAR {
+        counts.add(name, usize::from(holds(moment)));
+    }
+}
+
+/// Counts the rows of a position, and the rules that they show.
+pub fn count_rows(shown: &Shown, counts: &mut Counts) {
+    counts.add("records", shown.records.len());
+    counts.add("pairs", shown.pairs.len());
+    counts.add("holds", shown.holds.len());
+    for (name, holds) in OF_A_PAIR {
+        counts.add(name, shown.pairs.iter().filter(|pair| holds(pair)).count());
+    }
+    for (name, holds) in OF_A_HOLD {
+        counts.add(name, shown.holds.iter().filter(|hold| holds(hold)).count());
+    }
+}
+
+fn is_infinite(bits: u64) -> bool {
+    f64::from_bits(bits).is_infinite()
+}
+
+impl Moment<'_> {
+    /// The event that decided the bar, if one did.
+    fn event(&self) -> Option<&Event> {
+        (self.answer.decision == 1).then(|| &self.sheet.events[self.answer.event as usize])
+    }
+
+    /// The code of its operate.
+    fn operate(&self) -> Option<u32> {
+        self.event()
+            .map(|event| raw::operate(event.operate.as_bytes()).code)
+    }
+
+    /// The side that it opens.
+    fn opens(&self) -> Option<Pos> {
+        match self.operate()? {
+            3 => Some(Pos::Long),
+            5 => Some(Pos::Short),
+            _ => None,
+        }
+    }
+
+    /// The side that it closes.
+    fn closes(&self) -> Option<Pos> {
+        match self.operate()? {
+            4 => Some(Pos::Long),
+            6 => Some(Pos::Short),
+            _ => None,
+        }
+    }
+
+    fn record(&self) -> Option<&OperateRecord> {
+        self.after.operates.get(self.before.operates.len())
+    }
+
+    fn goes(&self, from: Pos, to: Pos) -> bool {
+        self.before.pos == from && self.after.pos == to
+    }
+
+    /// Whether a side is held before and after the bar, the same.
+    fn is_held(&self) -> bool {
+        self.before.pos != Pos::Flat && self.before.pos == self.after.pos
+    }
+
+    /// The last opening of a side before the bar.
+    fn last_open(&self, side: Pos) -> Option<Time> {
+        let temp = self.before.temp_state.as_ref()?;
+        match side {
+            Pos::Long => temp.last_lo_dt,
+            Pos::Short => temp.last_so_dt,
+            Pos::Flat => None,
+        }
+    }
+
+    fn now(&self) -> Time {
+        self.after.holds[self.before.holds.len()].dt
+    }
+
+    /// Whole seconds since the last opening of the side that the event opens.
+    fn seconds(&self) -> Option<i64> {
+        let open = self.last_open(self.opens()?)?;
+        Some((self.now() - open).num_seconds())
+    }
+
+    fn is_interval_short(&self) -> bool {
+        self.opens() != Some(self.before.pos)
+            && self
+                .seconds()
+                .is_some_and(|seconds| seconds <= self.sheet.interval)
+    }
+
+    fn is_cut_to_the_interval(&self) -> bool {
+        let open = self.opens().and_then(|side| self.last_open(side));
+        let exact =
+            open.map(|open| (self.now() - open).num_milliseconds() > self.sheet.interval * 1_000);
+        self.seconds() == Some(self.sheet.interval) && exact == Some(true)
+    }
+
+    /// The gain since the reference, of the side held.
+    fn gain(&self) -> Option<f64> {
+        let ratio = self.bar.price / self.after.last_event.as_ref()?.price;
+        match self.before.pos {
+            Pos::Long => Some(ratio - 1.0),
+            Pos::Short => Some(1.0 - ratio),
+            Pos::Flat => None,
+        }
+    }
+
+    /// The ids since the reference, where it is an earlier bar.
+    fn id_gap(&self) -> Option<i64> {
+        let event = self.after.last_event.as_ref()?;
+        (event.dt != self.now()).then(|| self.bar.id - i64::from(event.bar_id))
+    }
+
+    /// Whether the bar is on the UTC day, and on the local day, of the last opening of the side held; under a sheet without t0.
+    fn days(&self) -> Option<(bool, bool)> {
+        let (open, now) = (self.last_open(self.before.pos)?, self.now());
+        let utc = open.naive_utc().date() == now.naive_utc().date();
+        (!self.sheet.t0).then(|| (utc, open.date_naive() == now.date_naive()))
+    }
+}
