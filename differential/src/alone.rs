@@ -21,6 +21,9 @@ const OPERATES: [Operate; 7] = [
     Operate::SE,
 ];
 
+/// What is read of a text, or the number that it is refused with.
+type Read<T> = Result<T, u32>;
+
 /// Some signals and operates, each with a damaged copy.
 pub fn compare(rng: &mut Rng, counts: &mut Counts) -> Result<(), String> {
     for _ in 0..4 {
@@ -34,63 +37,48 @@ pub fn compare(rng: &mut Rng, counts: &mut Counts) -> Result<(), String> {
     Ok(())
 }
 
+fn compare_signal(bytes: &[u8], counts: &mut Counts) -> Result<(), String> {
+    let theirs = domain(bytes).and_then(their_signal);
+    counts.add("signals", 1);
+    counts.add("refused", usize::from(theirs.is_err()));
+    let what = format!("signal {:?}", String::from_utf8_lossy(bytes));
+    same(&what, &our_signal(bytes), &(theirs, true))
+}
+
+fn compare_operate(bytes: &[u8], counts: &mut Counts) -> Result<(), String> {
+    let theirs = domain(bytes).and_then(their_operate);
+    counts.add("operates", 1);
+    counts.add("refused", usize::from(theirs.is_err()));
+    let what = format!("operate {:?}", String::from_utf8_lossy(bytes));
+    same(&what, &our_operate(bytes), &theirs)
+}
+
 /// The text that the Rust is given, or the number with which document 01 refuses bytes that the Rust is not given.
-fn domain(bytes: &[u8]) -> Result<&str, u32> {
+fn domain(bytes: &[u8]) -> Read<&str> {
     if bytes.len() > TEXT_LIMIT {
         return Err(7);
     }
     let text = from_utf8(bytes).map_err(|_| 1u32)?;
-    if text.contains(['|', '\n']) {
-        Err(2)
-    } else {
-        Ok(text)
-    }
+    let alone = !text.contains(['|', '\n']);
+    alone.then_some(text).ok_or(2)
 }
 
-fn shown(bytes: &[u8]) -> String {
-    format!("of {:?}", String::from_utf8_lossy(bytes))
-}
-
-/// A signal's number, key, values and score.
-fn compare_signal(bytes: &[u8], counts: &mut Counts) -> Result<(), String> {
+/// A signal's key and value; and whether the bytes behind what is written are kept.
+fn our_signal(bytes: &[u8]) -> (Read<(String, String)>, bool) {
     let mut out = vec![FOREIGN; bytes.len() + 1];
-    let ours = raw::signal(bytes, &mut out);
-    let ends = [ours.key, ours.v1, ours.v2, ours.v3].map(|length| length);
-    let (number, key, value) = match domain(bytes).and_then(read_signal) {
-        Ok((key, value)) => (0, key, value),
-        Err(number) => (number, String::new(), String::new()),
-    };
-    counts.add("signals", 1);
-    counts.add("refused", usize::from(number != 0));
-    same(&format!("number {}", shown(bytes)), &ours.number, &number)?;
-    let mut texts = cut(&out, &ends);
-    let rest = texts.pop().unwrap_or_default();
-    let untouched = rest.iter().all(|byte| *byte == FOREIGN);
-    same(&format!("later bytes {}", shown(bytes)), &untouched, &true)?;
-    if number == 0 {
-        let values = [texts[1], texts[2], texts[3]].join(&b'_');
-        let value_of_ours = format!("{}_{}", String::from_utf8_lossy(&values), ours.score);
-        same(&format!("key {}", shown(bytes)), &texts[0], &key.as_bytes())?;
-        same(&format!("value {}", shown(bytes)), &value_of_ours, &value)?;
-    }
-    Ok(())
+    let answer = raw::signal(bytes, &mut out);
+    let (key, rest) = out.split_at(answer.key);
+    let (v1, rest) = rest.split_at(answer.v1);
+    let (v2, rest) = rest.split_at(answer.v2);
+    let (v3, rest) = rest.split_at(answer.v3);
+    let [key, v1, v2, v3] = [key, v1, v2, v3].map(String::from_utf8_lossy);
+    let read = (key.into_owned(), format!("{v1}_{v2}_{v3}_{}", answer.score));
+    let kept = rest.iter().all(|byte| *byte == FOREIGN);
+    (number(answer.number).map(|()| read), kept)
 }
 
-/// The bytes cut into parts of these lengths, and the rest.
-fn cut<'a>(bytes: &'a [u8], lengths: &[usize]) -> Vec<&'a [u8]> {
-    let mut rest = bytes;
-    let mut parts = Vec::new();
-    for length in lengths {
-        let (part, after) = rest.split_at(*length);
-        parts.push(part);
-        rest = after;
-    }
-    parts.push(rest);
-    parts
-}
-
-/// What the Rust reads of a signal, key and value, or the number that its refusal stands for.
-fn read_signal(text: &str) -> Result<(String, String), u32> {
+/// The Rust's key and value of a signal. Its two refusals are told apart by their texts.
+fn their_signal(text: &str) -> Read<(String, String)> {
     match text.parse::<Signal>() {
         Ok(signal) => Ok((signal.key(), signal.value())),
         Err(why) if why.to_string().starts_with("Signal格式无效") => Err(5),
@@ -98,28 +86,20 @@ fn read_signal(text: &str) -> Result<(String, String), u32> {
     }
 }
 
-/// An operate's number, its code and the Chinese name of that.
-fn compare_operate(bytes: &[u8], counts: &mut Counts) -> Result<(), String> {
-    let ours = raw::operate(bytes);
-    let theirs = domain(bytes).and_then(|text| parse_operate(text).ok_or(4));
-    counts.add("operates", 1);
-    counts.add("refused", usize::from(theirs.is_err()));
-    let number = theirs.err().unwrap_or(0);
-    same(&format!("number {}", shown(bytes)), &ours.number, &number)?;
-    if let Ok(name) = theirs {
-        let code = OPERATES
-            .iter()
-            .position(|operate| operate.to_chinese() == name);
-        same(
-            &format!("code {}", shown(bytes)),
-            &Some(ours.code as usize),
-            &code,
-        )?;
-        same(
-            &format!("name {}", shown(bytes)),
-            &operate_name(ours.code).as_str(),
-            &name,
-        )?;
-    }
-    Ok(())
+/// An operate's code, and the Chinese name of that code.
+fn our_operate(bytes: &[u8]) -> Read<(usize, String)> {
+    let answer = raw::operate(bytes);
+    number(answer.number).map(|()| (answer.code as usize, operate_name(answer.code)))
+}
+
+fn their_operate(text: &str) -> Read<(usize, String)> {
+    let name = parse_operate(text).ok_or(4u32)?;
+    let code = OPERATES
+        .iter()
+        .position(|operate| operate.to_chinese() == name);
+    code.map(|code| (code, name.to_string())).ok_or(4)
+}
+
+fn number(number: u32) -> Read<()> {
+    if number == 0 { Ok(()) } else { Err(number) }
 }

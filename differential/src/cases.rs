@@ -39,7 +39,7 @@ pub fn refused(rng: &mut Rng, season: &Season, number: u32) -> Case {
 
 /// A season's input and output, with a faulty bar before the bar of an index.
 fn case(season: &Season, fault: Option<(usize, Faulty)>) -> Case {
-    let mut theirs = Theirs::new(&season.sheet);
+    let mut theirs = Theirs::new(&season.sheet).expect("the Rust reads a valid sheet");
     let mut input = format!("{}-\n", season.sheet.text()).into_bytes();
     let mut output = String::new();
     let bars: Vec<&Bar> = season.bars().collect();

@@ -17,12 +17,8 @@ pub fn give(
     unchanged("compile", &mut table, counts, |table| {
         raw::compile(&sheet, table)
     })?;
-    let book = flipped(rng, &ours.book);
-    let table = if rng.once_in(4) {
-        flipped(rng, &ours.table)
-    } else {
-        ours.table.clone()
-    };
+    let book = sometimes_flipped(rng, &ours.book);
+    let table = sometimes_flipped(rng, &ours.table);
     feed(rng, season, &table, &book, counts)?;
     let mut kept = ours.book.clone();
     unchanged("restore", &mut kept, counts, |kept| {
@@ -38,10 +34,11 @@ pub fn give(
     })
 }
 
-/// A copy with one or two bits changed near its start, where the header, the counts and the first entries stand.
-fn flipped(rng: &mut Rng, bytes: &[u8]) -> Vec<u8> {
+/// A copy, every third time with one or two bits changed near its start, where counts, settings and the first entries stand.
+fn sometimes_flipped(rng: &mut Rng, bytes: &[u8]) -> Vec<u8> {
     let mut copy = bytes.to_vec();
-    for _ in 0..1 + rng.below(2) {
+    let flips = if rng.once_in(3) { 1 + rng.below(2) } else { 0 };
+    for _ in 0..flips {
         let place = rng.below(copy.len().min(400));
         copy[place] ^= 1 << rng.below(8);
     }

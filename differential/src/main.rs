@@ -137,12 +137,9 @@ fn report(options: &Options, counts: &Counts, difference: Option<String>) -> Exi
         );
         return ExitCode::FAILURE;
     }
-    for name in rules::names() {
-        println!("{:>10}  {name}", counts.get(name));
-    }
+    print!("{}", rules::lines(counts));
     println!("seed {}: {counts}, 0 differences", options.seed);
-    let missed = rules::names().any(|name| counts.get(name) == 0);
-    if missed && options.inputs >= ENOUGH {
+    if options.inputs >= ENOUGH && rules::is_one_missed(counts) {
         println!("a rule was not reached");
         return ExitCode::FAILURE;
     }

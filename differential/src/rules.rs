@@ -121,13 +121,25 @@ const OF_A_HOLD: [(&str, fn(&Hold) -> bool); 3] = [
 pub const LATE_AFTER_A_CHANGE: &str = "late bar after a change";
 
 /// The names of all rules.
-pub fn names() -> impl Iterator<Item = &'static str> {
+fn names() -> impl Iterator<Item = &'static str> {
     let bars = OF_A_BAR
         .iter()
         .map(|rule| rule.0)
         .chain([LATE_AFTER_A_CHANGE]);
     let pairs = OF_A_PAIR.iter().map(|rule| rule.0);
     bars.chain(pairs).chain(OF_A_HOLD.iter().map(|rule| rule.0))
+}
+
+/// A line for each rule, with how often it was reached.
+pub fn lines(counts: &Counts) -> String {
+    names()
+        .map(|name| format!("{:>10}  {name}\n", counts.get(name)))
+        .collect()
+}
+
+/// Whether some rule was not reached.
+pub fn is_one_missed(counts: &Counts) -> bool {
+    names().any(|name| counts.get(name) == 0)
 }
 
 pub fn count_bar(moment: &Moment, counts: &mut Counts) {

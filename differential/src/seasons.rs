@@ -12,7 +12,7 @@ pub fn compare(season: &Season, counts: &mut Counts) -> Result<Ours, String> {
     let mut both = Both {
         season,
         ours: Ours::new(&season.sheet, season.bars().count())?,
-        theirs: Theirs::new(&season.sheet),
+        theirs: Theirs::new(&season.sheet)?,
     };
     for (index, step) in season.steps.iter().enumerate() {
         both.take(index, step, counts)
@@ -50,7 +50,8 @@ impl Both<'_> {
                 self.same()?;
                 let elsewhere = index % 2 == 1;
                 if self.ours.restore(elsewhere)? {
-                    self.theirs.restore(elsewhere.then_some(&self.season.sheet));
+                    self.theirs
+                        .restore(elsewhere.then_some(&self.season.sheet))?;
                     counts.add("restores", 1);
                 }
             }

@@ -20,11 +20,12 @@ pub struct Theirs {
 }
 
 impl Theirs {
-    pub fn new(sheet: &Sheet) -> Theirs {
-        Theirs {
-            position: position(sheet),
+    /// A position by a sheet, all of which the Rust must read.
+    pub fn new(sheet: &Sheet) -> Result<Theirs, String> {
+        Ok(Theirs {
+            position: position(sheet)?,
             image: None,
-        }
+        })
     }
 
     pub fn feed(&mut self, bar: &Bar) {
@@ -43,13 +44,14 @@ impl Theirs {
     }
 
     /// Restores the last image, into the position or into a new one of the sheet.
-    pub fn restore(&mut self, elsewhere: Option<&Sheet>) {
+    pub fn restore(&mut self, elsewhere: Option<&Sheet>) -> Result<(), String> {
         if let Some(sheet) = elsewhere {
-            self.position = position(sheet);
+            self.position = position(sheet)?;
         }
         if let Some(image) = &self.image {
             self.position.import_runtime_state(image.clone());
         }
+        Ok(())
     }
 
     /// The position after the last bar that was not late, and whether that bar changed it.
@@ -95,52 +97,49 @@ fn empty() -> Position {
     serde_json::from_str(EMPTY).expect("the Rust reads a position")
 }
 
-fn position(sheet: &Sheet) -> Position {
-    let mut position = empty();
+fn position(sheet: &Sheet) -> Result<Position, String> {
     let events = |exit| {
-        sheet
-            .events
-            .iter()
-            .filter(move |event| event.exit == exit)
-            .map(event)
-            .collect()
+        let events = sheet.events.iter().filter(move |event| event.exit == exit);
+        events.map(event).collect::<Result<_, _>>()
     };
-    position.opens = events(false);
-    position.exits = events(true);
+    let mut position = empty();
+    position.opens = events(false)?;
+    position.exits = events(true)?;
     position.interval = sheet.interval;
     position.timeout = sheet.timeout as i32;
     position.stop_loss = sheet.stop as f64;
     position.t0 = sheet.t0;
     position.name = sheet.name.clone();
     position.symbol = sheet.symbol.clone();
-    position
+    Ok(position)
 }
 
-fn event(event: &inputs::Event) -> Event {
+fn event(event: &inputs::Event) -> Result<Event, String> {
     let signals = |kind| {
         let clauses = event
             .clauses
             .iter()
             .filter(move |clause| clause.kind == kind);
         clauses
-            .map(|clause| {
-                clause
-                    .signal()
-                    .parse::<Signal>()
-                    .expect("the Rust reads a valid signal")
-            })
-            .collect()
+            .map(|clause| signal(&clause.signal()))
+            .collect::<Result<_, _>>()
     };
-    let chinese = parse_operate(&event.operate).expect("the Rust reads a valid operate");
-    Event {
-        operate: serde_json::from_value(chinese.into())
+    let operate = parse_operate(&event.operate);
+    let operate = operate.ok_or(format!("the Rust refuses the operate {:?}", event.operate))?;
+    Ok(Event {
+        operate: serde_json::from_value(operate.into())
             .expect("serde reads an operate's Chinese name"),
-        signals_all: signals(Kind::All),
-        signals_any: signals(Kind::Any),
-        signals_not: signals(Kind::Not),
+        signals_all: signals(Kind::All)?,
+        signals_any: signals(Kind::Any)?,
+        signals_not: signals(Kind::Not)?,
         name: event.name.clone(),
         sha256: String::new(),
-    }
+    })
+}
+
+fn signal(text: &str) -> Result<Signal, String> {
+    text.parse()
+        .map_err(|_| format!("the Rust refuses the signal {text:?}"))
 }
 
 fn date_time(bar: &Bar) -> DateTime<FixedOffset> {

@@ -107,7 +107,7 @@ fn grow(rng: &mut Rng, sheet: &mut Sheet, keys: &[[String; 3]]) {
         if length + line > TEXT_LIMIT {
             break;
         }
-        rng_event(rng, sheet).clauses.push(clause);
+        any_event(rng, sheet).clauses.push(clause);
         clauses += 1;
         length += line;
     }
@@ -116,7 +116,7 @@ fn grow(rng: &mut Rng, sheet: &mut Sheet, keys: &[[String; 3]]) {
     }
 }
 
-fn rng_event<'a>(rng: &mut Rng, sheet: &'a mut Sheet) -> &'a mut Event {
+fn any_event<'a>(rng: &mut Rng, sheet: &'a mut Sheet) -> &'a mut Event {
     let index = rng.below(sheet.events.len());
     &mut sheet.events[index]
 }

@@ -31,10 +31,10 @@ const KEY_PARTS: [&str; 10] = [
 
 const VALUES: [&str; 8] = [ANY, ANY, "up", "down", "向上", "", "😀", "任"];
 
-const NAMES: [&str; 27] = [
+const NAMES: [&str; 34] = [
     "go", "out", "", "名", "😀", "a@b", "@", "LO#1", "LO#", "SO#x", "LE#", "SE#A1B2", "开多#",
     "开空#1", "平多#", "平空#2", "LO", "lo#1", " LO#", "LO_#", "LO#a@b", "开多", "HL#1", "x -> y",
-    "\r", "\0", "\u{feff}",
+    "\r", "\0", "\u{feff}", "平空", "平多", "开空 #", "SE", "SOx#", "LE1", "xLO#",
 ];
 
 /// Scores that a clause may have.

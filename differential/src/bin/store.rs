@@ -22,9 +22,9 @@ const REFUSED: [(u32, usize); 7] = [
 ];
 const FAULTY_BARS: [(u32, usize); 4] = [(1, 30), (7, 10), (11, 60), (12, 30)];
 
-/// The most bytes of a season among the valid cases (one in eight may have the second), and in a case with a fault.
-const SHORT: [usize; 2] = [900, 4_096];
-const WITH_FAULT: usize = 600;
+/// The most bytes of a season among the valid cases (one in fifteen may have the second), and in a case with a fault.
+const SHORT: [usize; 2] = [800, 4_096];
+const WITH_FAULT: usize = 400;
 
 fn main() -> ExitCode {
     let paths: Vec<String> = std::env::args().skip(1).collect();
@@ -36,17 +36,14 @@ fn main() -> ExitCode {
     let mut counts = Counts::default();
     let mut cases = valid(&mut rng, &mut counts);
     cases.extend(faults(&mut rng));
-    let written = write(input, output, &cases);
-    println!("{} cases; {counts}", cases.len());
-    let missed: Vec<&str> = rules::names()
-        .filter(|name| counts.get(name) == 0)
-        .collect();
-    match written {
-        Ok(()) if missed.is_empty() => ExitCode::SUCCESS,
-        Ok(()) => {
-            eprintln!("store: no case reaches: {}", missed.join("; "));
-            ExitCode::FAILURE
-        }
+    print!("{}", rules::lines(&counts));
+    println!("{} cases, of which {VALID} are valid", cases.len());
+    if rules::is_one_missed(&counts) {
+        eprintln!("store: a rule was not reached");
+        return ExitCode::FAILURE;
+    }
+    match write(input, output, &cases) {
+        Ok(()) => ExitCode::SUCCESS,
         Err(why) => {
             eprintln!("store: {why}");
             ExitCode::FAILURE
@@ -65,17 +62,17 @@ fn season(rng: &mut Rng, most: usize) -> Season {
     }
 }
 
-/// Seasons as the Rust answers them, and the rules that they reach.
+/// Seasons as the Rust answers them, and the rules that they reach. Those that trade are taken, and a few of the others.
 fn valid(rng: &mut Rng, counts: &mut Counts) -> Vec<Case> {
     let mut cases = Vec::new();
-    for _ in 0..VALID {
-        let most = SHORT[usize::from(rng.once_in(8))];
+    while cases.len() < VALID {
+        let most = SHORT[usize::from(rng.once_in(15))];
         let season = season(rng, most);
-        if let Err(what) = seasons::compare(&season, counts) {
-            panic!("ours and the Rust differ, so nothing is stored: {what}");
+        let case = cases::valid(&season);
+        if case.output.contains("\nR|") || rng.once_in(20) {
+            seasons::compare(&season, counts).expect("ours and the Rust agree on what is stored");
+            cases.push(case);
         }
-        counts.add("inputs", 1);
-        cases.push(cases::valid(&season));
     }
     cases
 }
