@@ -81,7 +81,7 @@ fn pair_line(pair: &PairRow) -> String {
         "R|{}|{}|{}|{}|{}|{:016x}|{:016x}|{}|{}|{:016x}|{}\n",
         pair.symbol,
         pair.mark,
-        if pair.long { 'L' } else { 'S' },
+        if pair.side == 1 { 'L' } else { 'S' },
         pair.opened,
         pair.closed,
         pair.from,

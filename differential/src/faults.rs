@@ -183,13 +183,14 @@ fn wrong_line(rng: &mut Rng, season: &Season) -> String {
     let sheet = season.sheet.text();
     let (first, events) = sheet.split_once('\n').expect("a sheet has a first line");
     let bars = bars(season);
+    let wrong = *rng.pick(&WRONG_IN_SHEET);
     match rng.below(7) {
         0 => format!("{sheet}{bars}"),
         1 => format!("{sheet}-"),
         2 => format!("{events}-\n{bars}"),
         3 => format!("{first}\nA|a_b_c_d_e_f_1\n{events}-\n{bars}"),
         4 => format!("{sheet}-\nS|k|v\n{bars}"),
-        5 => with_exit(season, *rng.pick(&WRONG_IN_SHEET)),
+        5 => with_exit(season, wrong),
         _ => season.text() + *rng.pick(&WRONG_IN_BARS),
     }
 }

@@ -26,7 +26,13 @@ struct Options {
 /// What the threads share: the next input, and what they found.
 struct Work {
     next: AtomicU64,
-    found: Mutex<(Counts, Option<String>)>,
+    found: Mutex<Found>,
+}
+
+#[derive(Default)]
+struct Found {
+    counts: Counts,
+    difference: Option<String>,
 }
 
 fn main() -> ExitCode {
@@ -46,8 +52,8 @@ fn main() -> ExitCode {
             scope.spawn(|| take_blocks(&options, &work));
         }
     });
-    let (counts, difference) = work.found.into_inner().expect("no thread panicked");
-    report(&options, &counts, difference)
+    let found = work.found.into_inner().expect("no thread panicked");
+    report(&options, &found)
 }
 
 fn options() -> Result<Options, String> {
@@ -85,16 +91,13 @@ fn take_blocks(options: &Options, work: &Work) {
         let difference = (start..options.inputs.min(start + BLOCK))
             .find_map(|index| input(options.seed, index, &mut counts).err());
         let mut found = work.found.lock().expect("no thread panicked");
-        found.0.join(&counts);
-        if found
-            .0
-            .get("inputs")
-            .is_multiple_of((options.inputs / 10).max(BLOCK))
-        {
-            eprintln!("{}", found.0);
+        found.counts.join(&counts);
+        let step = (options.inputs / 10).max(BLOCK);
+        if found.counts.get("inputs").is_multiple_of(step) {
+            eprintln!("{}", found.counts);
         }
         if difference.is_some() {
-            found.1 = difference;
+            found.difference = difference;
             work.next.store(options.inputs, Ordering::Relaxed);
         }
     }
@@ -129,16 +132,14 @@ fn line(step: &Step) -> String {
     }
 }
 
-fn report(options: &Options, counts: &Counts, difference: Option<String>) -> ExitCode {
-    if let Some(difference) = difference {
-        println!(
-            "{difference}\nseed {}: {counts}, 1 difference",
-            options.seed
-        );
+fn report(options: &Options, found: &Found) -> ExitCode {
+    let (seed, counts) = (options.seed, &found.counts);
+    if let Some(difference) = &found.difference {
+        println!("{difference}\nseed {seed}: {counts}, 1 difference");
         return ExitCode::FAILURE;
     }
     print!("{}", rules::lines(counts));
-    println!("seed {}: {counts}, 0 differences", options.seed);
+    println!("seed {seed}: {counts}, 0 differences");
     if options.inputs >= ENOUGH && rules::is_one_missed(counts) {
         println!("a rule was not reached");
         return ExitCode::FAILURE;

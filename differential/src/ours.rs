@@ -7,6 +7,9 @@ use position_book::raw::{self, FeedAnswer};
 /// What a buffer holds before a call, so that a byte that is written shows.
 pub const FOREIGN: u8 = 0xa5;
 
+/// The number of a row request past the last row. Any other refusal shows as a row of zeros.
+const NO_ROW: u32 = 15;
+
 pub struct Ours {
     pub table: Vec<u8>,
     pub book: Vec<u8>,
@@ -118,11 +121,21 @@ impl Ours {
             price: i64_at(&self.book, at + 16) as u64,
             operate,
             pos: pos(self.book[at + 25]),
-            description: match self.book[at + 26] {
-                1 => self.event_name(i32_at(&self.book, at + 28)),
-                2 => format!("{}@{}BP止损", operate_name(operate), self.stop),
-                _ => format!("{}@{}K超时", operate_name(operate), self.timeout),
-            },
+            description: self.description(
+                operate,
+                self.book[at + 26].into(),
+                i32_at(&self.book, at + 28),
+            ),
+        }
+    }
+
+    /// What a record of an operate says of why it was written: by an event (1), the stop (2) or the timeout (3).
+    pub fn description(&self, operate: u32, why: u32, event: i32) -> String {
+        match why {
+            1 => self.event_name(event),
+            2 => format!("{}@{}BP止损", operate_name(operate), self.stop),
+            3 => format!("{}@{}K超时", operate_name(operate), self.timeout),
+            _ => format!("{why}"),
         }
     }
 
@@ -142,10 +155,10 @@ impl Ours {
         let row = raw::pair_row(&self.table, &self.book, index, &mut buffer);
         let (symbol, rest) = buffer.split_at(row.symbol);
         let (mark, rest) = rest.split_at(row.mark);
-        (row.number == 0).then(|| PairRow {
+        (row.number != NO_ROW).then(|| PairRow {
             symbol: text(symbol),
             mark: text(mark),
-            long: row.side == 1,
+            side: row.side,
             opened: row.opened,
             closed: row.closed,
             from: row.from.to_bits(),
@@ -159,7 +172,7 @@ impl Ours {
 
     fn hold_row(&self, index: i64) -> Option<HoldRow> {
         let row = raw::hold_row(&self.table, &self.book, index);
-        (row.number == 0).then(|| HoldRow {
+        (row.number != NO_ROW).then(|| HoldRow {
             local: row.local,
             pos: row.pos,
             price: row.price.to_bits(),

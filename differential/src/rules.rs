@@ -17,8 +17,11 @@ pub struct Moment<'a> {
 }
 
 type Time = DateTime<FixedOffset>;
+type BarRule = (&'static str, fn(&Moment) -> bool);
+type PairRule = (&'static str, fn(&PairRow) -> bool);
+type HoldRule = (&'static str, fn(&Hold) -> bool);
 
-const OF_A_BAR: [(&str, fn(&Moment) -> bool); 26] = [
+const OF_A_BAR: [BarRule; 26] = [
     ("no event matches", |m| m.answer.decision == 0),
     ("an event without clauses matches", |m| {
         m.event().is_some_and(|event| event.clauses.is_empty())
@@ -82,9 +85,9 @@ const OF_A_BAR: [(&str, fn(&Moment) -> bool); 26] = [
     }),
 ];
 
-const OF_A_PAIR: [(&str, fn(&PairRow) -> bool); 14] = [
-    ("pair long", |pair| pair.long),
-    ("pair short", |pair| !pair.long),
+const OF_A_PAIR: [PairRule; 14] = [
+    ("pair long", |pair| pair.side == 1),
+    ("pair short", |pair| pair.side == -1),
     ("pair whose ids fall", |pair| pair.ids < 0),
     ("pair yield absent", |pair| pair.bp.is_none()),
     ("pair yield infinite", |pair| {
@@ -109,7 +112,7 @@ const OF_A_PAIR: [(&str, fn(&PairRow) -> bool); 14] = [
     }),
 ];
 
-const OF_A_HOLD: [(&str, fn(&Hold) -> bool); 3] = [
+const OF_A_HOLD: [HoldRule; 3] = [
     ("hold yield", |hold| hold.bp.is_some()),
     ("hold yield absent", |hold| hold.bp.is_none()),
     ("hold yield infinite", |hold| {
@@ -195,7 +198,8 @@ impl Moment<'_> {
         }
     }
 
-    fn record(&self) -> Option<&OperateRecord> {
+    /// The record that the bar wrote.
+    pub fn record(&self) -> Option<&OperateRecord> {
         self.after.operates.get(self.before.operates.len())
     }
 

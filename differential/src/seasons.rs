@@ -6,6 +6,7 @@ use crate::rules::{self, Moment};
 use crate::shown::{Shown, same};
 use crate::theirs::Theirs;
 use inputs::{Bar, Season, Step};
+use position_book::raw::FeedAnswer;
 
 /// Compares a season. Our side is given back as the season leaves it, or where the two part first.
 pub fn compare(season: &Season, counts: &mut Counts) -> Result<Ours, String> {
@@ -83,6 +84,20 @@ impl Both<'_> {
             after: &after,
         };
         rules::count_bar(&moment, counts);
-        Ok(())
+        self.same_reason(&moment)
+    }
+
+    /// Where a bar wrote a record, our answer tells what decided it as the Rust's record does.
+    fn same_reason(&self, moment: &Moment) -> Result<(), String> {
+        let Some(record) = moment.record() else {
+            return Ok(());
+        };
+        let FeedAnswer {
+            decision, event, ..
+        } = moment.answer;
+        let ours = self
+            .ours
+            .description(record.op as u32, decision, event as i32);
+        same("what decided the bar", &Some(ours), &record.op_desc)
     }
 }

@@ -39,7 +39,8 @@ pub struct Hold {
 pub struct PairRow {
     pub symbol: String,
     pub mark: String,
-    pub long: bool,
+    /// 1 for L, -1 for S.
+    pub side: i32,
     pub opened: i64,
     pub closed: i64,
     pub from: u64,

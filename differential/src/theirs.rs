@@ -222,7 +222,11 @@ fn pair_rows(frame: DataFrame) -> Vec<PairRow> {
         .map(|row| PairRow {
             symbol: symbol[row].clone(),
             mark: mark[row].clone(),
-            long: side[row] == "多头",
+            side: match side[row].as_str() {
+                "多头" => 1,
+                "空头" => -1,
+                _ => 0,
+            },
             opened: local(&opened[row]),
             closed: local(&closed[row]),
             from: from[row].to_bits(),
