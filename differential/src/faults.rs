@@ -195,19 +195,24 @@ fn wrong_line(rng: &mut Rng, season: &Season) -> String {
     }
 }
 
-/// A setting that is malformed or just outside its range.
-fn wrong_setting(rng: &mut Rng, season: &Season) -> String {
-    let place = rng.below(4);
-    let wrong = if rng.once_in(2) {
-        PAST_THE_SETTINGS[place]
-    } else {
-        *rng.pick(&NO_NUMBERS)
-    };
+/// The season's input with another text in a field of its first line.
+fn with_field(season: &Season, place: usize, field: &str) -> String {
     let text = season.text();
     let (first, rest) = text.split_once('\n').expect("a sheet has a first line");
     let mut fields: Vec<&str> = first.split('|').collect();
-    fields[3 + place] = wrong;
+    fields[place] = field;
     format!("{}\n{rest}", fields.join("|"))
+}
+
+/// A setting that is malformed or just outside its range.
+fn wrong_setting(rng: &mut Rng, season: &Season) -> String {
+    let setting = rng.below(4);
+    let wrong = if rng.once_in(2) {
+        PAST_THE_SETTINGS[setting]
+    } else {
+        *rng.pick(&NO_NUMBERS)
+    };
+    with_field(season, 3 + setting, wrong)
 }
 
 /// A bar more, with a malformed field.
@@ -220,25 +225,14 @@ fn wrong_bar_field(rng: &mut Rng, season: &Season) -> String {
 
 /// A sheet with a name or symbol too long, an event too many or a clause too many.
 fn past_a_limit(rng: &mut Rng, season: &Season) -> String {
-    let mut season = season.clone();
     let long = "é".repeat(NAME_LIMIT / 2) + "n";
-    match rng.below(5) {
-        0 => season.sheet.name = long,
-        1 => season.sheet.symbol = long,
-        2 => return with_exit(&season, &format!("X|LE|{long}\n")),
-        3 => {
-            return with_exit(
-                &season,
-                &"X|LE|n\n".repeat(EVENT_LIMIT + 1 - season.sheet.events.len()),
-            );
-        }
-        _ => {
-            let clauses = LINE_LIMIT + 1 - season.sheet.clauses().count();
-            return with_exit(
-                &season,
-                &format!("X|LE|n\n{}", "A|______0\n".repeat(clauses)),
-            );
-        }
-    }
-    season.text()
+    let events = EVENT_LIMIT + 1 - season.sheet.events.len();
+    let clauses = LINE_LIMIT + 1 - season.sheet.clauses().count();
+    let lines = match rng.below(5) {
+        name_or_symbol @ (0 | 1) => return with_field(season, 1 + name_or_symbol, &long),
+        2 => format!("X|LE|{long}\n"),
+        3 => "X|LE|n\n".repeat(events),
+        _ => format!("X|LE|n\n{}", "A|______0\n".repeat(clauses)),
+    };
+    with_exit(season, &lines)
 }
