@@ -2,7 +2,7 @@
 use libc::STDIN_FILENO;
 use libc::STDOUT_FILENO;
 use run_text::INPUT_ROOM;
-use run_text::OUTPUT_ROOM;
+use run_text::paper_out;
 use run_text::run;
 ghost use mathlib.Core.Path.{_≡_};
 ghost use lib.ListN.{length};
@@ -12,13 +12,6 @@ fn paper_in() -> [u8; INPUT_ROOM]
     ensures { λ r. ⌜ 65537 ≡ length r ⌝ }
 {
     [0u8; INPUT_ROOM]
-}
-
-// Room for every output.
-fn paper_out() -> [u8; OUTPUT_ROOM]
-    ensures { λ r. ⌜ 2500000 ≡ length r ⌝ }
-{
-    [0u8; OUTPUT_ROOM]
 }
 
 fn main() {

@@ -42,8 +42,15 @@ pub const INPUT_ROOM: usize = INPUT_LIMIT + 1;
 // The bytes of a book of 900 bars.
 const BOOK_LENGTH: usize = HEAD_LENGTH + 2 * ENTRY_LENGTH * 900;
 
-// Room for every output.
+// The bytes of room for every output.
 pub const OUTPUT_ROOM: usize = 2_500_000;
+
+// Zeros for every output. Only the length is told, which lending asks for.
+pub fn paper_out() -> [u8; OUTPUT_ROOM]
+    ensures { λ r. ⌜ outputRoom ≡ length r ⌝ }
+{
+    [0u8; OUTPUT_ROOM]
+}
 
 // The bar that waits for its signals, or none before the first bar.
 enum Waiting {
