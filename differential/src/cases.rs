@@ -3,7 +3,7 @@
 use crate::faults;
 use crate::shown::{HoldRow, PairRow};
 use crate::theirs::Theirs;
-use inputs::{Bar, Rng, Season};
+use inputs::{Bar, Rng, Season, Sheet, Step};
 
 /// An input of the run program, and what it prints.
 pub struct Case {
@@ -27,6 +27,24 @@ pub fn with_faulty_bar(rng: &mut Rng, season: &Season, number: u32) -> Case {
     let place = rng.below(season.bars().count() + 1);
     let lines = faults::bar(rng, number);
     case(season, Some((place, Faulty { lines, number })))
+}
+
+/// A season of as many bars as the run program's book has room for, and one more, which is refused with 14.
+pub fn overfull(sheet: Sheet) -> Case {
+    const ROOM: i64 = 900;
+    let bar = |id: i64| Bar {
+        id,
+        instant: id * 60_000_000,
+        offset: 0,
+        price: (1 + id % 7) as f64,
+        signals: Vec::new(),
+    };
+    let season = Season {
+        sheet,
+        steps: (0..ROOM).map(|id| Step::Feed(bar(id))).collect(),
+    };
+    let lines = bar(ROOM).lines().into_bytes();
+    case(&season, Some((ROOM as usize, Faulty { lines, number: 14 })))
 }
 
 /// A season that is refused with a number.

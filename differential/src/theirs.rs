@@ -30,13 +30,8 @@ impl Theirs {
 
     pub fn feed(&mut self, bar: &Bar) {
         let map: HashMap<String, String> = bar.signals.iter().cloned().collect();
-        let bar = LiteBar {
-            id: bar.id as i32,
-            dt: date_time(bar),
-            price: bar.price,
-        };
         self.position
-            .update_profiled_with_signal_map(bar, None, Some(&map));
+            .update_profiled_with_signal_map(lite_bar(bar), None, Some(&map));
     }
 
     pub fn save(&mut self) {
@@ -97,7 +92,8 @@ fn empty() -> Position {
     serde_json::from_str(EMPTY).expect("the Rust reads a position")
 }
 
-fn position(sheet: &Sheet) -> Result<Position, String> {
+/// The Rust's position of a sheet, or what it says against it.
+pub fn position(sheet: &Sheet) -> Result<Position, String> {
     let events = |exit| {
         let events = sheet.events.iter().filter(move |event| event.exit == exit);
         events.map(event).collect::<Result<_, _>>()
@@ -140,6 +136,15 @@ fn event(event: &inputs::Event) -> Result<Event, String> {
 fn signal(text: &str) -> Result<Signal, String> {
     text.parse()
         .map_err(|_| format!("the Rust refuses the signal {text:?}"))
+}
+
+/// A bar without its signals, as the Rust takes it.
+pub fn lite_bar(bar: &Bar) -> LiteBar {
+    LiteBar {
+        id: bar.id as i32,
+        dt: date_time(bar),
+        price: bar.price,
+    }
 }
 
 fn date_time(bar: &Bar) -> DateTime<FixedOffset> {

@@ -36,6 +36,7 @@ fn main() -> ExitCode {
     let mut counts = Counts::default();
     let mut cases = valid(&mut rng, &mut counts);
     cases.extend(faults(&mut rng));
+    cases.push(cases::overfull(season(&mut rng, WITH_FAULT).sheet));
     print!("{}", rules::lines(&counts));
     println!("{} cases, of which {VALID} are valid", cases.len());
     if rules::is_one_missed(&counts) {
