@@ -1,0 +1,225 @@
+//! Comparing the library with the model: the calls, their arguments, and one comparison.
+
+pub mod books;
+pub mod numbers;
+pub mod round;
+pub mod tables;
+pub mod texts;
+
+use crate::model;
+use position_book::raw;
+use std::collections::BTreeMap;
+
+/// The most bytes of a buffer that are shown.
+const SHOWN: usize = 100_000;
+
+/// All that the calls take. A call reads and writes what it is lent, and nothing else here.
+#[derive(Clone, Default, PartialEq)]
+pub struct Arguments {
+    pub text: Vec<u8>,
+    pub table: Vec<u8>,
+    pub book: Vec<u8>,
+    pub image: Vec<u8>,
+    pub buffer: Vec<u8>,
+    pub id: i64,
+    pub instant: i64,
+    pub offset: i64,
+    /// The price's bits.
+    pub price: u64,
+    pub index: i64,
+    pub code: u32,
+}
+
+impl Arguments {
+    /// Those of compiling a text.
+    pub fn compiling(text: &[u8], table: Vec<u8>) -> Arguments {
+        Arguments {
+            text: text.to_vec(),
+            table,
+            ..Arguments::default()
+        }
+    }
+
+    fn show(&self) -> String {
+        let bytes = [
+            ("text", &self.text),
+            ("table", &self.table),
+            ("book", &self.book),
+            ("image", &self.image),
+            ("buffer", &self.buffer),
+        ];
+        let numbers = format!(
+            "id {} instant {} offset {} price {:016x} index {} code {}",
+            self.id, self.instant, self.offset, self.price, self.index, self.code
+        );
+        let lines = bytes.map(|(name, bytes)| format!("\n{name}, {}: {}", bytes.len(), hex(bytes)));
+        numbers + &lines.concat()
+    }
+}
+
+/// Bytes in hexadecimal, up to a length.
+fn hex(bytes: &[u8]) -> String {
+    let shown = bytes.iter().take(SHOWN);
+    shown.map(|byte| format!("{byte:02x}")).collect()
+}
+
+/// An answer as numbers, the first of them 01's; doubles by their bits.
+trait Words {
+    fn words(&self) -> Vec<u64>;
+}
+
+impl Words for u32 {
+    fn words(&self) -> Vec<u64> {
+        vec![u64::from(*self)]
+    }
+}
+
+/// Lists the fields of an answer.
+macro_rules! words {
+    ($answer:ident: $($field:ident),* $(; $($double:ident),*)?) => {
+        impl Words for raw::$answer {
+            fn words(&self) -> Vec<u64> {
+                vec![$(self.$field as u64),* $(, $(self.$double.to_bits()),*)?]
+            }
+        }
+    };
+}
+
+words!(NameAnswer: number, length);
+words!(OperateAnswer: number, code);
+words!(SignalAnswer: number, score, key, v1, v2, v3);
+words!(FeedAnswer: number, pos, changed, decision, event);
+words!(HoldAnswer: number, local, pos, present; price, bp);
+words!(PairAnswer: number, side, opened, closed, ids, present, symbol, mark, sequence; from, to, days, bp);
+
+/// A call on both sides, and the numbers that it can answer.
+pub struct Call {
+    pub name: &'static str,
+    pub numbers: &'static [usize],
+    ours: fn(&mut Arguments) -> Vec<u64>,
+    model: fn(&mut Arguments) -> Vec<u64>,
+}
+
+macro_rules! call {
+    ($name:ident, $numbers:expr, $a:ident, $($argument:expr),*) => {
+        Call {
+            name: stringify!($name),
+            numbers: &$numbers,
+            ours: |$a| raw::$name($($argument),*).words(),
+            model: |$a| model::$name($($argument),*).words(),
+        }
+    };
+}
+
+pub const COMPILE: Call = call!(
+    compile,
+    [0, 1, 2, 3, 4, 5, 6, 7, 8],
+    a,
+    &a.text,
+    &mut a.table
+);
+pub const FRESH: Call = call!(fresh, [0, 8], a, &mut a.book);
+pub const FEED: Call = call!(
+    feed,
+    [0, 1, 2, 7, 8, 9, 10, 11, 12, 13, 14],
+    a,
+    &a.table,
+    &mut a.book,
+    a.id,
+    a.instant,
+    a.offset,
+    f64::from_bits(a.price),
+    &a.text
+);
+pub const SAVE: Call = call!(save, [0, 8, 9, 10], a, &a.table, &a.book, &mut a.image);
+pub const RESTORE: Call = call!(restore, [0, 8, 9, 10], a, &a.table, &mut a.book, &a.image);
+pub const PAIR_ROW: Call = call!(
+    pair_row,
+    [0, 8, 9, 10, 15],
+    a,
+    &a.table,
+    &a.book,
+    a.index,
+    &mut a.buffer
+);
+pub const HOLD_ROW: Call = call!(hold_row, [0, 8, 9, 10, 15], a, &a.table, &a.book, a.index);
+pub const EVENT_NAME: Call = call!(
+    event_name,
+    [0, 8, 9, 15],
+    a,
+    &a.table,
+    a.index,
+    &mut a.buffer
+);
+pub const SIGNAL: Call = call!(signal, [0, 1, 2, 5, 6, 7, 8], a, &a.text, &mut a.buffer);
+pub const OPERATE: Call = call!(operate, [0, 1, 2, 4, 7], a, &a.text);
+pub const OPERATE_NAME: Call = call!(operate_name, [0, 4, 8], a, a.code, &mut a.buffer);
+
+pub const CALLS: [&Call; 11] = [
+    &COMPILE,
+    &FRESH,
+    &FEED,
+    &SAVE,
+    &RESTORE,
+    &PAIR_ROW,
+    &HOLD_ROW,
+    &EVENT_NAME,
+    &SIGNAL,
+    &OPERATE,
+    &OPERATE_NAME,
+];
+
+/// The seed of the round that runs, and how often each call answered each number.
+#[derive(Default)]
+pub struct Comparison {
+    pub seed: u64,
+    pub counts: BTreeMap<&'static str, [u64; 16]>,
+    /// How often nothing, an event, the stop and the timeout decided a bar.
+    pub decisions: [u64; 4],
+}
+
+impl Comparison {
+    /// Makes a call on both sides with the same arguments. The number, the values and all bytes must be the same. Gives the number and the
+    /// arguments at exit.
+    pub fn run(&mut self, call: &Call, arguments: &Arguments) -> (u64, Arguments) {
+        let (mut ours, mut model) = (arguments.clone(), arguments.clone());
+        let answer = (call.ours)(&mut ours);
+        let expected = (call.model)(&mut model);
+        if answer != expected || ours != model {
+            self.tell(call, arguments, (answer, ours), (expected, model));
+        }
+        self.counts.entry(call.name).or_default()[answer[0] as usize] += 1;
+        if call.name == FEED.name && answer[0] == 0 {
+            self.decisions[answer[3] as usize] += 1;
+        }
+        (answer[0], ours)
+    }
+
+    fn tell(
+        &self,
+        call: &Call,
+        arguments: &Arguments,
+        ours: (Vec<u64>, Arguments),
+        model: (Vec<u64>, Arguments),
+    ) -> ! {
+        panic!(
+            "{} differs, seed {}\n{}\n--- ours {:?}\n{}\n--- model {:?}\n{}",
+            call.name,
+            self.seed,
+            arguments.show(),
+            ours.0,
+            ours.1.show(),
+            model.0,
+            model.1.show()
+        );
+    }
+}
+
+impl Drop for Comparison {
+    /// A panic inside one of the sides tells its seed too.
+    fn drop(&mut self) {
+        if std::thread::panicking() {
+            eprintln!("seed {}", self.seed);
+        }
+    }
+}

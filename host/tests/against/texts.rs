@@ -1,0 +1,119 @@
+//! Texts with faults: sheets, a bar's signals, signals and operates alone.
+
+use inputs::{LINE_LIMIT, NAME_LIMIT, Rng, TEXT_LIMIT};
+
+/// Fields that are wrong somewhere, or right at a limit.
+const FIELDS: [&str; 26] = [
+    "",
+    "0",
+    "1",
+    "2",
+    "01",
+    "0000000001",
+    "00000000001",
+    "4102444800",
+    "4102444801",
+    "2147483647",
+    "2147483648",
+    "1000000",
+    "1000001",
+    "9999999999",
+    "+1",
+    "-1",
+    " 1",
+    "１",
+    "LO",
+    "lo",
+    "持多",
+    "HX",
+    "a_b_c_d_e_f_100",
+    "a_b_c_d_e_f_101",
+    "a_b_c_d_e_f",
+    "a_b_c_d_e_f_-0",
+];
+
+/// A copy of a text with a fault in its bytes, its fields, its lines or its length.
+pub fn fault(rng: &mut Rng, text: &[u8]) -> Vec<u8> {
+    match rng.below(8) {
+        0 => (0..rng.below(80)).map(|_| rng.bits() as u8).collect(),
+        1 => long(rng, text),
+        2 => crowd(rng, text),
+        3 => line_fault(rng, text),
+        4 | 5 => field_fault(rng, text),
+        _ => inputs::damage(rng, text),
+    }
+}
+
+/// A text made as long as a text may be, or one byte longer; by bytes that are no UTF-8 now and then.
+fn long(rng: &mut Rng, text: &[u8]) -> Vec<u8> {
+    let mut copy = text.to_vec();
+    copy.resize(
+        TEXT_LIMIT + rng.below(2),
+        *rng.pick(&[b'x', b'x', b'\n', 0xff]),
+    );
+    copy
+}
+
+/// A text with so many lines more that it has about as many as it may have. A bar's keys come again from the line after the last.
+fn crowd(rng: &mut Rng, text: &[u8]) -> Vec<u8> {
+    let of_sheet = [
+        "O|LO|o\n",
+        "X|SE|x\n",
+        "A|a_b_c_d_e_f_0\n",
+        "N|a_b_c_d_e_f_0\n",
+    ];
+    let count = *rng.pick(&[30, 31, 32, 33, LINE_LIMIT - 1, LINE_LIMIT, LINE_LIMIT + 1]);
+    let lines: String = if text.starts_with(b"P|") {
+        rng.pick(&of_sheet).repeat(count)
+    } else {
+        (0..count)
+            .map(|n| format!("k{}|v\n", n % LINE_LIMIT))
+            .collect()
+    };
+    [text, lines.as_bytes()].concat()
+}
+
+fn lines(text: &[u8]) -> Vec<Vec<u8>> {
+    text.split_inclusive(|byte| *byte == b'\n')
+        .map(<[u8]>::to_vec)
+        .collect()
+}
+
+/// A line that is missing, doubled, moved or without its LF.
+fn line_fault(rng: &mut Rng, text: &[u8]) -> Vec<u8> {
+    let mut lines = lines(text);
+    if lines.is_empty() {
+        return b"\n".to_vec();
+    }
+    let (from, to) = (rng.below(lines.len()), rng.below(lines.len()));
+    match rng.below(4) {
+        0 => drop(lines.remove(from)),
+        1 => lines.insert(to, lines[from].clone()),
+        2 => lines.swap(from, to),
+        _ => drop(lines.last_mut().and_then(Vec::pop)),
+    }
+    lines.concat()
+}
+
+/// A field replaced by another.
+fn field_fault(rng: &mut Rng, text: &[u8]) -> Vec<u8> {
+    let mut lines = lines(text);
+    if lines.is_empty() {
+        return b"|\n".to_vec();
+    }
+    let place = rng.below(lines.len());
+    let line = lines[place].strip_suffix(b"\n").unwrap_or(&lines[place]);
+    let mut fields: Vec<Vec<u8>> = line
+        .split(|byte| *byte == b'|')
+        .map(<[u8]>::to_vec)
+        .collect();
+    let field = rng.below(fields.len());
+    fields[field] = match rng.below(6) {
+        0 => "n".repeat(NAME_LIMIT + rng.below(2)).into_bytes(),
+        1 => inputs::signal(rng).into_bytes(),
+        2 => inputs::operate(rng).into_bytes(),
+        _ => rng.pick(&FIELDS).as_bytes().to_vec(),
+    };
+    lines[place] = [fields.join(&b'|'), b"\n".to_vec()].concat();
+    lines.concat()
+}
