@@ -7,6 +7,7 @@ mod model;
 use against::round::round;
 use against::{Arguments, CALLS, COMPILE, Call, Comparison, FEED, FRESH, HOLD_ROW, RESTORE, SAVE};
 use position_book::raw::{TABLE_LENGTH, book_length};
+use std::collections::BTreeSet;
 
 /// How many rounds are run, with the seeds from 1 on.
 const ROUNDS: u64 = 8_000;
@@ -45,6 +46,16 @@ fn show(counts: &[u64]) -> String {
     let given = counts.iter().enumerate().filter(|(_, count)| **count > 0);
     let shown = given.map(|(number, count)| format!(" {number}: {count}"));
     shown.collect()
+}
+
+#[test]
+fn every_exported_call_is_compared() {
+    let declared = include_str!("../src/raw.rs").lines().filter_map(|line| {
+        let rest = line.trim().strip_prefix("pub fn position_book_")?;
+        rest.split('(').next()
+    });
+    let compared: BTreeSet<&str> = CALLS.iter().map(|call| call.name).collect();
+    assert_eq!(declared.collect::<BTreeSet<_>>(), compared);
 }
 
 #[test]

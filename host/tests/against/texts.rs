@@ -54,7 +54,7 @@ fn long(rng: &mut Rng, text: &[u8]) -> Vec<u8> {
     copy
 }
 
-/// A text with so many lines more that it has about as many as it may have. A bar's keys come again from the line after the last.
+/// A text with so many lines more that it has about as many as it may have. Added keys repeat where a bar's limit is passed.
 fn crowd(rng: &mut Rng, text: &[u8]) -> Vec<u8> {
     let of_sheet = [
         "O|LO|o\n",
