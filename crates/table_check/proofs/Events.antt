@@ -1,16 +1,18 @@
 -- A walk over events: what each asks of the next, and the invariant of `events_ok`. Assumes nothing.
-use Prim.Native.Nat.{ℕ, _+_, _-_, _*_, _≤_, _<_}
+use Prim.Native.Nat.{ℕ, _+_, _*_, _≤_, _<_}
 use native.Mathlib.Omega.{arith}
-use mathlib.Core.Bool.{Bool, true, false, cond}
+use mathlib.Core.Bool.{Bool, true, false, cond, false≢true}
 use mathlib.Core.List.{List, [], _∷_}
 use mathlib.Core.Logic.{_≢_}
-use mathlib.Core.Path.{_≡_, refl, sym, _∙_}
+use mathlib.Core.Path.{_≡_, refl, sym, ap, _∙_}
 use lib.Dec.{leb, eqb}
-use lib.ListN.{length, getD, take, drop}
+use lib.ListN.{length, getD, drop}
 use borrow.Author.Tests.{eq-eqb, ne-eqb, eqb-true, leb-false}
-use Rattle.le.proofs.Laws.{part-lent}
 use Rattle.text.specs.Conditions.{allOf, every}
-use Rattle.text.proofs.Conditions.{Each, _also_, none-left, sure}
+use Rattle.text.proofs.Conditions.{Each, _also_, none-left, sure, fact}
+use Rattle.words.specs.Words.{clean}
+use Rattle.words.specs.Read.{isCut}
+use Rattle.words.proofs.Cut.{part-clean, rest-clean}
 use Rattle.table.specs.Layout.{eventLength, eventIn, eventText}
 use Rattle.table.specs.Table.{follow, eventOk, eventsOk}
 use Rattle.table.specs.Read.{EventAt}
@@ -64,10 +66,10 @@ module _ (names : List ℕ) (n : ℕ) (e : EventRow) (es : List EventRow) where
 
 -- ---- `event_ok`
 
--- the name as it is lent
-pub name-lent : (names : List ℕ) (e : EventRow) → take (e .at + e .len - e .at) (drop (e .at) names) ≡ eventText names e
+-- a name that may be cut off from the next
+pub name-clean : (names : List ℕ) (e : EventRow) → clean (drop (e .at) names) ≡ true → {r : Bool} → r ≡ isCut (drop (e .at + e .len) names) → r ≡ clean (eventText names e)
 unfolding eventText
-name-lent names e = part-lent names (e .at) (e .len)
+name-clean names e h k = k ∙ sym (part-clean names (e .at) (e .len) h)
 
 -- ---- `event_step`
 
@@ -80,16 +82,38 @@ module _ (names : List ℕ) (e : EventRow) (f g : ℕ) where
   unfolding eventStep
   event-goes k = rw (sure k)
 
+  -- behind the name of an event that is right the names are still clean
+  behind : clean (drop f names) ≡ true → allOf (eventAsked names e f g) ≡ true → clean (drop (e .at + e .len) names) ≡ true
+  unfolding eventOk eventText
+  behind h q = rest-clean names (e .at) (e .len) (rw (eqb-true (e .at) f (fact _ q 0)) h) (fact _ (fact _ q 3) 3)
+
+  abbrev isOn : Step → Bool
+  isOn (On a b) = true
+  isOn Stop = false
+
+  abbrev nameEnd : Step → ℕ
+  nameEnd (On a b) = a
+  nameEnd Stop = 0
+
+  behind-event : clean (drop f names) ≡ true → (a b : ℕ) → eventStep names e f g ≡ On a b → clean (drop a names) ≡ true
+  unfolding eventStep
+  behind-event h a b k = go (allOf (eventAsked names e f g)) refl k
+    where
+      go : (t : Bool) → allOf (eventAsked names e f g) ≡ t → cond t (On (e .at + e .len) (e .first + e .count)) Stop ≡ On a b → clean (drop a names) ≡ true
+      go true q r = rw (sym (ap nameEnd r)) (behind h q)
+      go false q r = absurd (false≢true (ap isOn r))
+
 -- ---- `events_ok`
 
 pub record Walking (l names : List ℕ) (n clauses f g i : ℕ) : Type 0 where
   pub le : i ≤ n
   pub room : eventLength * n ≤ length l
+  pub rest : clean (drop f names) ≡ true
   pub still : eventsOk names clauses (eventRows n l) ≡ eventsFrom names clauses f g (drop i (eventRows n l))
 
-pub walking-first : (l names : List ℕ) (n clauses : ℕ) → eventLength * n ≤ length l → Walking l names n clauses 0 0 0
+pub walking-first : (l names : List ℕ) (n clauses : ℕ) → eventLength * n ≤ length l → clean names ≡ true → Walking l names n clauses 0 0 0
 unfolding eventsOk eventsFrom
-walking-first l names n clauses h = record { le = omega arith; room = h; still = refl }
+walking-first l names n clauses h k = record { le = omega arith; room = h; rest = k; still = refl }
 
 module _ {l names : List ℕ} {n clauses f g i : ℕ} (w : Walking l names n clauses f g i) where
   module _ (h : n ≤ i) where
@@ -111,4 +135,4 @@ module _ {l names : List ℕ} {n clauses f g i : ℕ} (w : Walking l names n cla
     walking-stop k = sym (stepped ∙ rw k)
 
     pub walking-more : (a b : ℕ) → s ≡ On a b → Walking l names n clauses a b (i + 1)
-    walking-more a b k = record { le = omega arith; room = w .room; still = stepped ∙ rw k }
+    walking-more a b k = record { le = omega arith; room = w .room; rest = behind-event names e f g (w .rest) a b (sym q ∙ k); still = stepped ∙ rw k }

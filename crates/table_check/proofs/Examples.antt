@@ -9,7 +9,7 @@ use Rattle.table.specs.Table.{isTable, headOk}
 use Rattle.table.specs.declared.EventRow.{EventRow}
 use Rattle.table.specs.declared.ClauseRow.{ClauseRow}
 use Rattle.table.proofs.Examples.{soy}
-use Rattle.table_check.specs.Check.{eventStep, clauseStep, ordersOf, laid, ranksFrom, titlesOk, rowsOk, vocabularyOk}
+use Rattle.table_check.specs.Check.{eventStep, clauseStep, ordersOf, laid, ranksFrom, textsOk, rowsOk, vocabularyOk}
 use Rattle.table_check.specs.declared.Step.the-variants.{On, Stop}
 use Rattle.table_check.proofs.Opened.{opened}
 
@@ -19,7 +19,7 @@ passes : (isTable soy ≡ true) × (isTable (drop 1 soy) ≡ false)
 unfolding opened soy
 passes = (refl, refl)
 
-part-by-part : (headOk soy ≡ true) × (titlesOk (partsIn soy) ≡ true) × (rowsOk (partsIn soy) ≡ true) × (vocabularyOk (partsIn soy) ≡ true)
+part-by-part : (headOk soy ≡ true) × (textsOk (partsIn soy) ≡ true) × (rowsOk (partsIn soy) ≡ true) × (vocabularyOk (partsIn soy) ≡ true)
 unfolding opened soy
 part-by-part = (refl, refl, refl, refl)
 

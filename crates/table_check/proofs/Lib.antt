@@ -1,6 +1,7 @@
 -- The laws of the table check.
 pub mod Heads
 pub mod Walks
+pub mod Texts
 pub mod Events
 pub mod Clauses
 pub mod Words

@@ -1,13 +1,16 @@
 -- The parts of a table as they are lent, and the conditions on them put together. Assumes nothing.
 use Prim.Native.Nat.{ℕ, _+_, _-_, _≤_}
 use native.Mathlib.Omega.{arith}
-use mathlib.Core.Bool.{Bool, true, false, _&&_}
+use mathlib.Core.Bool.{Bool, true, false, _&&_, false≢true}
 use mathlib.Core.List.{List, [], _∷_}
-use mathlib.Core.Path.{_≡_, refl, sym, _∙_}
+use mathlib.Core.Path.{_≡_, refl, sym, ap, _∙_}
 use lib.ListN.{length, getD, take, drop}
+use lib.Seq.{drop-drop}
 use Rattle.le.specs.Le.{part}
-use Rattle.text.specs.Conditions.{allOf}
-use Rattle.text.proofs.Conditions.{_also_, none-left}
+use Rattle.text.specs.Conditions.{allOf, every}
+use Rattle.text.proofs.Conditions.{_also_, none-left, fact}
+use Rattle.text.proofs.Every.{every-cons, every-at}
+use Rattle.text.proofs.Laws.{part-size}
 use Rattle.words.specs.Words.{clean, keyParts, valueParts}
 use Rattle.table.specs.Layout.{headLength, countsIn, placesIn, Parts, partsIn}
 use Rattle.table.specs.Table.{headOk, eventsOk, clausesOk, wordsOk, partsOk, isTable}
@@ -15,8 +18,9 @@ use Rattle.table.specs.Read.{Headed}
 use Rattle.table.specs.declared.Counts.{Counts}
 use Rattle.table.specs.declared.Places.{Places}
 use Rattle.table.proofs.Heads.{headed, clauses-many, keys-many, values-many}
-use Rattle.table_check.specs.Check.{eventRows, clauseRows, wordRows, titlesOk, rowsOk, vocabularyOk}
+use Rattle.table_check.specs.Check.{eventRows, clauseRows, wordRows, allCut, textsOk, rowsOk, vocabularyOk}
 use Rattle.text.proofs.Tested.{broken, decided}
+use Rattle.table_check.proofs.Texts.{clean-none, names-clean, words-clean, pieces, Rise, joined-clean, pieces-clean, lent-from, piece-is, last-is}
 
 -- ---- the header
 
@@ -33,14 +37,6 @@ abbrev lent : List ℕ → ℕ → ℕ → List ℕ
 lent t a b = take (b - a) (drop a t)
 
 module _ {t : List ℕ} {c : Counts} {p : Places} (h : Headed t c p) where
-  name-is : lent t (p .texts) (p .texts + c .name) ≡ partsIn t .name
-  unfolding partsIn part
-  name-is = rw (h .counts, h .places)
-
-  symbol-is : lent t (p .texts + c .name) (p .names) ≡ partsIn t .symbol
-  unfolding partsIn part
-  symbol-is = rw (h .counts, h .places)
-
   events-are : eventRows (c .events) (lent t (p .events) (p .clauses)) ≡ partsIn t .events
   unfolding partsIn part
   events-are = rw (h .counts, h .places)
@@ -71,14 +67,68 @@ module _ {t : List ℕ} {c : Counts} {p : Places} (h : Headed t c p) where
 
   -- ---- the conditions on them
 
-  pub titles-name : {x : Bool} → x ≡ clean (lent t (p .texts) (p .texts + c .name)) → x ≡ false → false ≡ titlesOk (partsIn t)
-  unfolding titlesOk
-  titles-name e f = broken _ 0 (rw (← name-is) (sym e ∙ f))
+  -- the places where the texts are cut
+  abbrev cuts : List ℕ
+  cuts = (p .texts + c .name) ∷ p .names ∷ p .keytexts ∷ p .valuetexts ∷ []
 
-  pub titles-symbol : {x y : Bool} → x ≡ clean (lent t (p .texts) (p .texts + c .name)) → x ≡ true → y ≡ clean (lent t (p .texts + c .name) (p .names))
-      → y ≡ titlesOk (partsIn t)
-  unfolding titlesOk
-  titles-symbol e f g = decided (rw (← name-is) (sym e ∙ f) also none-left) (rw (← symbol-is) g)
+  rise : Rise (p .texts) cuts
+  rise = (omega arith, (omega (arith, h .names), (h .keytexts, (h .valuetexts, tt))))
+
+  -- they are the pieces of all bytes up to where the last ends
+  texts-are : textsOk (partsIn t) ≡ every clean (pieces (take (p .used) t) (p .texts) cuts)
+  unfolding textsOk partsIn
+  texts-are =
+      rw (
+        piece-is t (p .used) (p .texts) (p .texts + c .name) (omega arith) (omega (arith, h .names, h .keytexts, h .valuetexts, h .used)),
+        piece-is t (p .used) (p .texts + c .name) (p .names) (omega (arith, h .names)) (omega (arith, h .keytexts, h .valuetexts, h .used)),
+        piece-is t (p .used) (p .names) (p .keytexts) (h .keytexts) (omega (arith, h .valuetexts, h .used)),
+        piece-is t (p .used) (p .keytexts) (p .valuetexts) (h .valuetexts) (h .used),
+        last-is t (p .used) (p .valuetexts) (h .used),
+        h .counts,
+        h .places,
+      )
+
+  ordered : p .texts ≤ p .used
+  ordered = omega (arith, h .names, h .keytexts, h .valuetexts, h .used)
+
+  -- all of them, and the places in them
+  whole-is : lent t (p .texts) (p .used) ≡ drop (p .texts) (take (p .used) t)
+  whole-is = part-size (p .texts) (p .used) t ordered
+
+  cuts-are : allCut (lent t (p .texts) (p .used)) (c .name ∷ (p .names - p .texts) ∷ (p .keytexts - p .texts) ∷ (p .valuetexts - p .texts) ∷ []) ≡ allCut (take (p .used) t) cuts
+  cuts-are =
+      let first : drop (c .name) (lent t (p .texts) (p .used)) ≡ drop (p .texts + c .name) (take (p .used) t) = rw whole-is (drop-drop (c .name) (p .texts) (take (p .used) t)) in
+      rw (
+        first,
+        lent-from t (p .used) (p .texts) (p .names) (omega (arith, h .names)) ordered,
+        lent-from t (p .used) (p .texts) (p .keytexts) (omega (arith, h .names, h .keytexts)) ordered,
+        lent-from t (p .used) (p .texts) (p .valuetexts) (omega (arith, h .names, h .keytexts, h .valuetexts)) ordered,
+      )
+
+  pub texts-unclean : {x : Bool} → x ≡ clean (lent t (p .texts) (p .used)) → x ≡ false → false ≡ textsOk (partsIn t)
+  texts-unclean e f = go (textsOk (partsIn t)) refl
+    where
+      go : (b : Bool) → textsOk (partsIn t) ≡ b → false ≡ b
+      go true k = absurd (false≢true (sym f ∙ e ∙ ap clean whole-is ∙ joined-clean (take (p .used) t) (p .texts) cuts rise (sym texts-are ∙ k)))
+      go false k = refl
+
+  pub texts-cut : {x y : Bool} → x ≡ clean (lent t (p .texts) (p .used)) → x ≡ true
+      → y ≡ allCut (lent t (p .texts) (p .used)) (c .name ∷ (p .names - p .texts) ∷ (p .keytexts - p .texts) ∷ (p .valuetexts - p .texts) ∷ []) → y ≡ textsOk (partsIn t)
+  texts-cut e f g = g ∙ cuts-are ∙ sym (texts-are ∙ pieces-clean (take (p .used) t) (p .texts) cuts rise (sym (ap clean whole-is) ∙ sym e ∙ f))
+
+  -- one of the texts
+  text-clean : textsOk (partsIn t) ≡ true → (i : ℕ) → clean (getD (partsIn t .name ∷ partsIn t .symbol ∷ partsIn t .names ∷ partsIn t .keytexts ∷ partsIn t .valuetexts ∷ []) i []) ≡ true
+  unfolding textsOk
+  text-clean e i = every-at clean [] clean-none _ e i
+
+  pub names-lent : textsOk (partsIn t) ≡ true → clean (lent t (p .names) (p .keytexts)) ≡ true
+  names-lent e = rw names-are (text-clean e 2)
+
+  pub keytexts-lent : textsOk (partsIn t) ≡ true → clean (lent t (p .keytexts) (p .valuetexts)) ≡ true
+  keytexts-lent e = rw keytexts-are (text-clean e 3)
+
+  pub valuetexts-lent : textsOk (partsIn t) ≡ true → clean (lent t (p .valuetexts) (p .used)) ≡ true
+  valuetexts-lent e = rw valuetexts-are (text-clean e 4)
 
   events-ok : {x : Bool} → x ≡ eventsOk (lent t (p .names) (p .keytexts)) (c .clauses) (eventRows (c .events) (lent t (p .events) (p .clauses)))
       → eventsOk (partsIn t .names) (length (partsIn t .clauses)) (partsIn t .events) ≡ x
@@ -117,9 +167,25 @@ grouped true true false d e f = refl
 grouped true false c d e f = refl
 grouped false b c d e f = refl
 
-parts-grouped : (q : Parts) → partsOk q ≡ allOf (titlesOk q ∷ rowsOk q ∷ vocabularyOk q ∷ [])
-unfolding partsOk titlesOk rowsOk vocabularyOk
+-- the position's texts, the events and the clauses, the keys and the values
+abbrev groups : Parts → List Bool
+groups q = allOf (clean (q .name) ∷ clean (q .symbol) ∷ []) ∷ rowsOk q ∷ vocabularyOk q ∷ []
+
+parts-grouped : (q : Parts) → partsOk q ≡ allOf (groups q)
+unfolding partsOk rowsOk vocabularyOk
 parts-grouped q = grouped _ _ _ _ _ _
+
+-- texts whose parts are right are clean
+parts-clean : (q : Parts) → partsOk q ≡ true → textsOk q ≡ true
+unfolding partsOk textsOk every
+parts-clean q e =
+    rw (
+      fact _ e 0,
+      fact _ e 1,
+      names-clean (q .names) (length (q .clauses)) (q .events) (fact _ e 2),
+      words-clean keyParts (q .keytexts) (q .keys) (fact _ e 4),
+      words-clean valueParts (q .valuetexts) (q .values) (fact _ e 5),
+    )
 
 neither : (b : Bool) → false ≡ (b && false)
 neither true = refl
@@ -130,11 +196,22 @@ module _ (t : List ℕ) where
   unfolding isTable
   table-head e = rw e
 
+  pub table-texts : textsOk (partsIn t) ≡ false → false ≡ isTable t
+  unfolding isTable
+  table-texts e = go (partsOk (partsIn t)) refl
+    where
+      go : (b : Bool) → partsOk (partsIn t) ≡ b → false ≡ (headOk t && partsOk (partsIn t))
+      go true k = absurd (false≢true (sym e ∙ parts-clean (partsIn t) k))
+      go false k = rw k (neither (headOk t))
+
   -- group number i of the conditions on the parts fails
-  pub table-parts : (i : ℕ) → getD (titlesOk (partsIn t) ∷ rowsOk (partsIn t) ∷ vocabularyOk (partsIn t) ∷ []) i true ≡ false → false ≡ isTable t
+  pub table-parts : (i : ℕ) → getD (groups (partsIn t)) i true ≡ false → false ≡ isTable t
   unfolding isTable
   table-parts i e = rw (parts-grouped (partsIn t), ← broken _ i e) (neither (headOk t))
 
-  pub table-last : headOk t ≡ true → titlesOk (partsIn t) ≡ true → rowsOk (partsIn t) ≡ true → {x : Bool} → x ≡ vocabularyOk (partsIn t) → x ≡ isTable t
-  unfolding isTable
-  table-last e f g h = rw (e, parts-grouped (partsIn t)) (decided (f also g also none-left) h)
+  pub table-last : headOk t ≡ true → textsOk (partsIn t) ≡ true → rowsOk (partsIn t) ≡ true → {x : Bool} → x ≡ vocabularyOk (partsIn t) → x ≡ isTable t
+  unfolding isTable textsOk allOf
+  table-last e f g h =
+      let n = every-cons clean (partsIn t .name) _ f in
+      let s = every-cons clean (partsIn t .symbol) _ (n .1) in
+      rw (e, parts-grouped (partsIn t), n .0, s .0) (decided (refl also g also none-left) h)

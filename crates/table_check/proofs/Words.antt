@@ -1,15 +1,19 @@
--- A walk over keys or values: where their texts lie, and the invariant of `words_laid`. Assumes nothing.
+-- A walk over keys or values: where their texts lie, what `word_fits` answers, and the invariant of `words_laid`. Assumes nothing.
 use Prim.Native.Nat.{ℕ, _+_, _-_, _*_, _≤_, _<_}
 use native.Mathlib.Omega.{arith}
 use mathlib.Core.Bool.{Bool, true, false, cond}
 use mathlib.Core.List.{List, [], _∷_}
-use mathlib.Core.Path.{_≡_, refl, sym, _∙_}
+use mathlib.Core.Path.{_≡_, refl, sym, ap, _∙_}
 use lib.Dec.{leb, eqb}
 use lib.ListN.{length, take, drop}
 use borrow.Author.Tests.{eqb-true, leb-false}
 use Rattle.le.proofs.Laws.{part-lent}
 use Rattle.text.specs.Conditions.{allOf, every}
-use Rattle.words.specs.Words.{wordOk}
+use Rattle.text.specs.Text.{split, underscore}
+use Rattle.text.proofs.Conditions.{fact}
+use Rattle.words.specs.Words.{clean, wordOk}
+use Rattle.words.specs.Read.{isCut, fit}
+use Rattle.words.proofs.Cut.{part-clean, rest-clean}
 use Rattle.table.specs.Layout.{wordLength, wordIn, wordText}
 use Rattle.table.specs.Table.{follow}
 use Rattle.table.specs.Read.{WordAt}
@@ -23,6 +27,32 @@ use Rattle.table_check.proofs.Walks.{rows-more, rows-end}
 pub text-lent : (texts : List ℕ) (w : WordRow) → take (w .at + w .len - w .at) (drop (w .at) texts) ≡ wordText texts w
 unfolding wordText
 text-lent texts w = part-lent texts (w .at) (w .len)
+
+-- ---- `word_fits`
+
+module _ (n : ℕ) (texts : List ℕ) (w : WordRow) (f : ℕ) (clear : clean (drop f texts) ≡ true) where
+  here : w .at ≡ f → clean (drop (w .at) texts) ≡ true
+  here e = rw e clear
+
+  -- a word that may not be cut off
+  pub word-uncut : w .at ≡ f → isCut (drop (w .at + w .len) texts) ≡ false → wordOk n (wordText texts w) ≡ false
+  unfolding wordOk wordText
+  word-uncut e k = sym (broken _ 0 (part-clean texts (w .at) (w .len) (here e) ∙ k))
+
+  word-clean : w .at ≡ f → isCut (drop (w .at + w .len) texts) ≡ true → clean (wordText texts w) ≡ true
+  unfolding wordText
+  word-clean e k = part-clean texts (w .at) (w .len) (here e) ∙ k
+
+  -- a word that may be: its parts decide
+  pub word-parts : w .at ≡ f → isCut (drop (w .at + w .len) texts) ≡ true → {r : Bool} → r ≡ fit n (split underscore (take (w .at + w .len - w .at) (drop (w .at) texts)))
+      → r ≡ wordOk n (wordText texts w)
+  unfolding wordOk allOf
+  word-parts e k h = rw (word-clean e k) (h ∙ ap (λ l. fit n (split underscore l)) (text-lent texts w))
+
+  -- behind a word that is right the texts are still clean
+  pub behind-word : allOf (wordAsked n texts w f) ≡ true → clean (drop (w .at + w .len) texts) ≡ true
+  unfolding wordOk wordText
+  behind-word e = rest-clean texts (w .at) (w .len) (here (eqb-true (w .at) f (fact _ e 0))) (fact _ (fact _ e 2) 0)
 
 -- ---- `words_laid`
 
@@ -51,10 +81,11 @@ module _ (n : ℕ) (texts : List ℕ) (w : WordRow) (ws : List WordRow) where
 pub record Laying (l texts : List ℕ) (n limit f i : ℕ) : Type 0 where
   pub le : i ≤ n
   pub room : wordLength * n ≤ length l
+  pub rest : clean (drop f texts) ≡ true
   pub still : laid limit texts 0 (wordRows n l) ≡ laid limit texts f (drop i (wordRows n l))
 
-pub laying-first : (l texts : List ℕ) (n limit : ℕ) → wordLength * n ≤ length l → Laying l texts n limit 0 0
-laying-first l texts n limit h = record { le = omega arith; room = h; still = refl }
+pub laying-first : (l texts : List ℕ) (n limit : ℕ) → wordLength * n ≤ length l → clean texts ≡ true → Laying l texts n limit 0 0
+laying-first l texts n limit h k = record { le = omega arith; room = h; rest = k; still = refl }
 
 module _ {l texts : List ℕ} {n limit f i : ℕ} (y : Laying l texts n limit f i) where
   pub laying-last : n ≤ i → eqb f (length texts) ≡ laid limit texts 0 (wordRows n l)
@@ -73,4 +104,4 @@ module _ {l texts : List ℕ} {n limit f i : ℕ} (y : Laying l texts n limit f 
     laying-off e = sym (turn ∙ rw e)
 
     pub laying-more : allOf (wordAsked limit texts w f) ≡ true → Laying l texts n limit (w .at + w .len) (i + 1)
-    laying-more e = record { le = omega arith; room = y .room; still = turn ∙ rw e }
+    laying-more e = record { le = omega arith; room = y .room; rest = behind-word limit texts w f (y .rest) e; still = turn ∙ rw e }

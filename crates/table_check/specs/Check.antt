@@ -7,6 +7,7 @@ use lib.ListN.{length, drop}
 use Rattle.list.specs.Numbered.{rows}
 use Rattle.text.specs.Conditions.{allOf, every}
 use Rattle.sheet.specs.Sheet.{eventLimit, clauseLimit, nameLimit}
+use Rattle.words.specs.Read.{isCut}
 use Rattle.words.specs.Words.{clean, wordOk, keyParts, valueParts, ranked}
 use Rattle.table.specs.Layout.{eventLength, clauseLength, wordLength, eventIn, clauseIn, wordIn, Parts, wordText}
 use Rattle.table.specs.Table.{follow, eventOk, eventsOk, wildCode, clauseOk, clausesOk, wordsOk}
@@ -116,8 +117,13 @@ pub record Inside (l texts : List ℕ) (n : ℕ) : Type 0 where
 
 -- ---- the parts
 
-unfoldable pub titlesOk : Parts → Bool
-titlesOk p = allOf (clean (p .name) ∷ clean (p .symbol) ∷ [])
+-- s may be cut at each of the places
+abbrev pub allCut : List ℕ → List ℕ → Bool
+allCut s cs = allOf (map (λ c. isCut (drop c s)) cs)
+
+-- what stands one after another in a table is clean; of the names, the key texts and the value texts this follows from `partsOk`
+unfoldable pub textsOk : Parts → Bool
+textsOk p = every clean (p .name ∷ p .symbol ∷ p .names ∷ p .keytexts ∷ p .valuetexts ∷ [])
 
 unfoldable pub rowsOk : Parts → Bool
 rowsOk p = allOf (eventsOk (p .names) (length (p .clauses)) (p .events) ∷ clausesOk (length (p .keys)) (length (p .values)) (p .clauses) ∷ [])

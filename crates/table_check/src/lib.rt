@@ -27,19 +27,21 @@ use table::read_settings;
 use table::word_at;
 use words::Order;
 use words::compare;
+use words::few_parts;
 use words::is_clean;
-use words::is_word;
+use words::is_cut;
 ghost use mathlib.Core.Path.{_≡_};
 ghost use mathlib.Core.Bool.{true};
+ghost use mathlib.Core.List.{[], _∷_};
 ghost use Prim.Native.Nat.{_+_, _*_, _≤_, _<_};
-ghost use lib.ListN.{length};
+ghost use lib.ListN.{length, drop};
 ghost use lib.Dec.{eqb};
 ghost use Rattle.text.specs.Conditions.{allOf};
-ghost use Rattle.words.specs.Words.{less, ascending};
+ghost use Rattle.words.specs.Words.{clean, less, ascending};
 ghost use Rattle.table.specs.Layout.{eventLength, clauseLength, wordLength, wordText, partsIn};
 ghost use Rattle.table.specs.Table.{settingsOk, countsOk, placesOk, headOk, eventOk, eventsOk, codeOk, clauseOk, clausesOk, wordsOk, isTable};
 ghost use Rattle.table.specs.Read.{Headed};
-ghost use Rattle.table_check.specs.Check.{Few, eventRows, clauseRows, wordRows, eventStep, useNext, codeNext, valuesNext, Coded, clauseStep, wordAt, textsOf, ordersOf, wordAsked, laid, rankAsked, ranksFrom, Inside, titlesOk, rowsOk, vocabularyOk};
+ghost use Rattle.table_check.specs.Check.{Few, eventRows, clauseRows, wordRows, eventStep, useNext, codeNext, valuesNext, Coded, clauseStep, wordAt, textsOf, ordersOf, wordAsked, laid, rankAsked, ranksFrom, Inside, allCut, textsOk, rowsOk, vocabularyOk};
 
 // The most parts of a key and of a value.
 pub const KEY_PARTS: usize = 3;
@@ -156,9 +158,9 @@ fn head_ok(t: &[u8]) -> bool
     places_ok(c, read_places(t))
 }
 
-// Whether an event is right; names are those of all.
+// Whether an event is right; names are those of all, clean from its own on, so that its name is clean where it may be cut off.
 fn event_ok(names: &[u8], e: EventRow) -> bool
-    requires { ⌜ e .at + e .len ≤ length (now names) ⌝ }
+    requires { ⌜ clean (drop (e .at) (now names)) ≡ true ⌝ }
     ensures { λ r. ⌜ r ≡ eventOk (now (names .entry)) e ⌝ }
 {
     if 1 < e.kind {
@@ -170,13 +172,12 @@ fn event_ok(names: &[u8], e: EventRow) -> bool
     if NAME_LIMIT < e.len as usize {
         return false;
     }
-    let at = e.at as usize;
-    let end = at + e.len as usize;
-    is_clean(&names[at..end])
+    is_cut(names, e.at as usize + e.len as usize)
 }
 
 // Checks an event whose name must start at f and whose clauses at g: where the next one's must.
 fn event_step(names: &[u8], e: EventRow, f: usize, g: usize) -> Step
+    requires { ⌜ clean (drop f (now names)) ≡ true ⌝ }
     ensures { λ r. ⌜ r ≡ eventStep (now (names .entry)) e f g ⌝ }
 {
     let at = e.at as usize;
@@ -197,9 +198,10 @@ fn event_step(names: &[u8], e: EventRow, f: usize, g: usize) -> Step
     Step::On(end, first + e.count as usize)
 }
 
-// Whether n events are right, with names and clauses that follow each other.
+// Whether n events are right, with names and clauses that follow each other; the names are clean as a whole.
 fn events_ok(rows: &[u8], names: &[u8], n: usize, clauses: usize) -> bool
     requires { ⌜ eventLength * n ≤ length (now rows) ⌝ }
+    requires { ⌜ clean (now names) ≡ true ⌝ }
     ensures { λ r. ⌜ r ≡ eventsOk (now (names .entry)) clauses (eventRows n (now (rows .entry))) ⌝ }
 {
     let mut f: usize = 0;
@@ -340,8 +342,9 @@ fn clauses_ok(rows: &[u8], n: usize, keys: usize, values: usize) -> bool
     b == values
 }
 
-// Whether a word of at most limit parts has its text at f.
+// Whether a word of at most limit parts has its text at f, from where on the texts are clean.
 fn word_fits(texts: &[u8], w: WordRow, f: usize, limit: usize) -> bool
+    requires { ⌜ clean (drop f (now texts)) ≡ true ⌝ }
     ensures { λ r. ⌜ r ≡ allOf (wordAsked limit (now (texts .entry)) w f) ⌝ }
 {
     let at = w.at as usize;
@@ -352,12 +355,16 @@ fn word_fits(texts: &[u8], w: WordRow, f: usize, limit: usize) -> bool
     if texts.len() < end {
         return false;
     }
-    is_word(&texts[at..end], limit)
+    if !is_cut(texts, end) {
+        return false;
+    }
+    few_parts(&texts[at..end], limit)
 }
 
-// Whether n words of at most limit parts follow each other in the texts.
+// Whether n words of at most limit parts follow each other in the texts, which are clean as a whole.
 fn words_laid(rows: &[u8], texts: &[u8], n: usize, limit: usize) -> bool
     requires { ⌜ wordLength * n ≤ length (now rows) ⌝ }
+    requires { ⌜ clean (now texts) ≡ true ⌝ }
     ensures { λ r. ⌜ r ≡ laid limit (now (texts .entry)) 0 (wordRows n (now (rows .entry))) ⌝ }
 {
     let mut f: usize = 0;
@@ -443,9 +450,10 @@ fn rising_ok(rows: &[u8], texts: &[u8], n: usize) -> bool
     true
 }
 
-// Whether n words of at most limit parts are right: laid one after another in the texts, and distinct.
+// Whether n words of at most limit parts are right: laid one after another in the texts, which are clean as a whole, and distinct.
 fn words_ok(rows: &[u8], texts: &[u8], n: usize, limit: usize) -> bool
     requires { ⌜ wordLength * n ≤ length (now rows) ⌝ }
+    requires { ⌜ clean (now texts) ≡ true ⌝ }
     ensures { λ r. ⌜ r ≡ wordsOk limit (now (texts .entry)) (wordRows n (now (rows .entry))) ⌝ }
 {
     if !words_laid(rows, texts, n, limit) {
@@ -457,23 +465,50 @@ fn words_ok(rows: &[u8], texts: &[u8], n: usize, limit: usize) -> bool
     rising_ok(rows, texts, n)
 }
 
-// Whether the position's name and symbol are right, where the header is.
-fn titles_ok(t: &[u8], c: Counts, p: Places) -> bool
-    requires { ⌜ Headed (now t) c p ⌝ }
-    ensures { λ r. ⌜ r ≡ titlesOk (partsIn (now (t .entry))) ⌝ }
+// Whether s may be cut at each of four places.
+fn cuts_ok(s: &[u8], symbol: usize, names: usize, keytexts: usize, valuetexts: usize) -> bool
+    ensures { λ r. ⌜ r ≡ allCut (now (s .entry)) (symbol ∷ names ∷ keytexts ∷ valuetexts ∷ []) ⌝ }
 {
-    let name = p.texts as usize;
-    let symbol = name + c.name as usize;
-    let end = p.names as usize;
-    if !is_clean(&t[name..symbol]) {
+    if !is_cut(s, symbol) {
         return false;
     }
-    is_clean(&t[symbol..end])
+    if !is_cut(s, names) {
+        return false;
+    }
+    if !is_cut(s, keytexts) {
+        return false;
+    }
+    is_cut(s, valuetexts)
 }
 
-// Whether the events and the clauses are right, where the header is.
+// Whether the texts are clean, where the header is right: the position's, the events' names, the keys, the values. They follow each other, so that
+// one look at them all is enough where each may be cut off from the next.
+fn texts_ok(t: &[u8], c: Counts, p: Places) -> bool
+    requires { ⌜ Headed (now t) c p ⌝ }
+    ensures { λ r. ⌜ r ≡ textsOk (partsIn (now (t .entry))) ⌝ }
+{
+    let texts = p.texts as usize;
+    let names = p.names as usize;
+    let keytexts = p.keytexts as usize;
+    let valuetexts = p.valuetexts as usize;
+    let used = p.used as usize;
+    let symbol = c.name as usize;
+    if !is_clean(&t[texts..used]) {
+        return false;
+    }
+    cuts_ok(
+        &t[texts..used],
+        symbol,
+        names - texts,
+        keytexts - texts,
+        valuetexts - texts,
+    )
+}
+
+// Whether the events and the clauses are right, where the header and the texts are.
 fn rows_ok(t: &[u8], c: Counts, p: Places) -> bool
     requires { ⌜ Headed (now t) c p ⌝ }
+    requires { ⌜ textsOk (partsIn (now t)) ≡ true ⌝ }
     ensures { λ r. ⌜ r ≡ rowsOk (partsIn (now (t .entry))) ⌝ }
 {
     let events = p.events as usize;
@@ -493,9 +528,10 @@ fn rows_ok(t: &[u8], c: Counts, p: Places) -> bool
     clauses_ok(&t[clauses..keys], n, c.keys as usize, c.values as usize)
 }
 
-// Whether the keys and the values are right, where the header is.
+// Whether the keys and the values are right, where the header and the texts are.
 fn vocabulary_ok(t: &[u8], c: Counts, p: Places) -> bool
     requires { ⌜ Headed (now t) c p ⌝ }
+    requires { ⌜ textsOk (partsIn (now t)) ≡ true ⌝ }
     ensures { λ r. ⌜ r ≡ vocabularyOk (partsIn (now (t .entry))) ⌝ }
 {
     let keys = p.keys as usize;
@@ -529,7 +565,7 @@ pub fn is_table(t: &[u8]) -> bool
     }
     let c = read_counts(t);
     let p = read_places(t);
-    if !titles_ok(t, c, p) {
+    if !texts_ok(t, c, p) {
         return false;
     }
     if !rows_ok(t, c, p) {

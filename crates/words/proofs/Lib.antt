@@ -1,7 +1,9 @@
 -- The laws of a table's words, and worked examples.
-pub mod Plain
+pub mod Meeting
+pub mod Cut
 pub mod Fit
 pub mod Total
+pub mod Level
 pub mod Apart
 pub mod Sorted
 mod Examples

@@ -1,15 +1,12 @@
--- The order of texts is total, what `compare` answers, and its invariant. Assumes nothing.
+-- The order of texts is total, and what `compare` answers. Assumes nothing.
 use mathlib.Core.Path.{_≡_, _∙_, refl, sym, ap₂}
 use mathlib.Core.Logic.{_≢_}
 use mathlib.Core.Bool.{Bool, true, false, false≢true, cond}
 use mathlib.Core.List.{List, [], _∷_}
-use Prim.Native.Nat.{ℕ, _+_, _≤_, _<_}
-use native.Mathlib.Numerals.{add-one}
+use Prim.Native.Nat.{ℕ, _<_}
 use native.Mathlib.Omega.{arith}
-use borrow.Author.Tests.{eq-eqb, ne-eqb, lt-ltb, le-ltb, ltb-true, ltb-false, eqb-true, eqb-false}
+use borrow.Author.Tests.{eq-eqb, ne-eqb, lt-ltb, ltb-true, ltb-false, eqb-true, eqb-false}
 use lib.Dec.{eqb, ltb}
-use lib.ListN.{length, getD, drop, drop-of-length-le}
-use lib.Seq.{drop-cons}
 use Rattle.text.specs.Text.{same}
 use Rattle.text.proofs.Same.{same-refl, same-eq}
 use Rattle.words.specs.Words.{less}
@@ -87,41 +84,3 @@ order-more a b e = go (less a b) (same a b) refl refl e
     go true s g h k = absurd (false≢true (cc))
     go false true g h k = absurd (false≢true (cc))
     go false false g h k = less-total a b g (λ q. false≢true (sym h ∙ rw q (same-refl b)))
-
--- ---- `compare`
-
--- up to i the texts are the same
-pub record Level (a b : List ℕ) (i : ℕ) : Type 0 where
-  pub le : i ≤ length a
-  pub also : i ≤ length b
-  pub still : orderOf a b ≡ orderOf (drop i a) (drop i b)
-
-module _ {a b : List ℕ} {i : ℕ} (c : Level a b i) where
-  pub level-short : i < length a → length b ≤ i → More ≡ orderOf a b
-  unfolding orderOf less same
-  level-short h k = sym (c .still ∙ rw (drop-cons a i 0 h, drop-of-length-le b k))
-
-  pub level-long : length a ≤ i → length a < length b → Less ≡ orderOf a b
-  unfolding orderOf less same
-  level-long h k = sym (c .still ∙ rw (drop-of-length-le a h, drop-cons b i 0 (omega arith)))
-
-  pub level-last : length a ≤ i → length b ≤ length a → Same ≡ orderOf a b
-  unfolding orderOf less same
-  level-last h k = sym (c .still ∙ rw (drop-of-length-le a h, drop-of-length-le b {i = i} (omega arith)))
-
-  module _ (h : i < length a) (k : i < length b) where
-    level-at : orderOf a b ≡ orderOf (getD a i 0 ∷ drop (i + 1) a) (getD b i 0 ∷ drop (i + 1) b)
-    level-at = c .still ∙ rw (add-one, drop-cons a i 0 h, drop-cons b i 0 k)
-
-    pub level-less : getD a i 0 < getD b i 0 → Less ≡ orderOf a b
-    unfolding orderOf less same
-    level-less l = sym (level-at ∙ rw (ne-eqb (getD a i 0) (getD b i 0) (omega arith), lt-ltb _ _ l))
-
-    module _ (m : getD b i 0 ≤ getD a i 0) where
-      pub level-more : getD b i 0 < getD a i 0 → More ≡ orderOf a b
-      unfolding orderOf less same
-      level-more l = sym (level-at ∙ rw (ne-eqb (getD a i 0) (getD b i 0) (omega arith), le-ltb _ _ m))
-
-      pub level-next : getD a i 0 ≤ getD b i 0 → Level a b (i + 1)
-      unfolding orderOf less same
-      level-next l = record { le = omega arith; also = omega arith; still = level-at ∙ rw (eq-eqb (getD a i 0) (getD b i 0) (omega arith)) }

@@ -1,11 +1,9 @@
 -- `table_check::event_ok` meets its contract. Assumes nothing.
-use Rattle.table_check.proofs.Events.{name-lent}
+use Rattle.table_check.proofs.Events.{name-clean}
 use Rattle.text.proofs.Tested.{broken, decided}
 use Rattle.table.specs.Table.{eventOk}
-use Rattle.words.specs.Words.{clean}
 use Rattle.text.proofs.Conditions.{_also_, none-left}
 use borrow.Author.Tests.{le-leb, lt-leb}
-use mathlib.Core.Path.{ap, _∙_}
 use borrow.Author.Needs.{needs}
 use Rattle.table_check.proofs.event_ok.Statement.{statement}
 use Rattle.table_check.proofs.event_ok.Tie as tie
@@ -25,11 +23,10 @@ returns-3 c = broken _ 2 (lt-leb _ _ (c .if3 .taken))
 returns-4 : tie.Need-returns-4
 unfolding eventOk
 returns-4 c =
-    let d = c .before .before .before .before in
-    let a = d .before .before .before .before .before .before .before .args in
+    let d = c .before .before .before in
     decided
     (le-leb _ _ (d .before .before .before .before .if1 .left) also le-leb _ _ (d .before .before .if2 .left) also le-leb _ _ (d .if3 .left) also none-left)
-    (c .is-clean .ensures ∙ ap clean (name-lent (a .names .now) (a .e)))
+    (name-clean _ _ (d .before .before .before .before .before .before .before .pre) (c .is-cut .ensures))
 
 pub event-ok-spec : {M : Type 1} → statement M
 event-ok-spec =
@@ -39,9 +36,6 @@ event-ok-spec =
     returns-2
     (λ c. search needs)
     returns-3
-    (λ c. search needs)
-    (λ c. search needs)
-    (λ c. search needs)
     (λ c. search needs)
     (λ c. search needs)
     (λ c. search needs)

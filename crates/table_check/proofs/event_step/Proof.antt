@@ -7,6 +7,9 @@ use borrow.Author.Needs.{needs}
 use Rattle.table_check.proofs.event_step.Statement.{statement}
 use Rattle.table_check.proofs.event_step.Tie as tie
 
+event-ok-requires : tie.Need-event-ok-requires
+event-ok-requires c κs = rw (c .before .before .if1 .left) (c .before .before .before .before .before .before .before .pre)
+
 returns : tie.Need-returns
 returns c = event-stops _ _ _ _ 0 (ne-eqb _ _ (c .if1 .taken))
 
@@ -40,7 +43,7 @@ event-step-spec =
     returns
     returns-2
     returns-3
-    (λ c κs. search needs)
+    event-ok-requires
     returns-4
     (λ c. search needs)
     (λ c. search needs)

@@ -12,7 +12,7 @@ abbrev μ-loop : tie.MeasureT-loop
 μ-loop rows names n clauses f₀ g₀ i₀ f g i = n - i
 
 loop-holds : tie.Need-loop-holds Inv-loop μ-loop
-loop-holds c = walking-first _ _ _ _ (c .before .before .pre)
+loop-holds c = walking-first _ _ _ _ (c .before .before .pre .0) (c .before .before .pre .1)
 
 returns : tie.Need-returns Inv-loop μ-loop
 returns c =

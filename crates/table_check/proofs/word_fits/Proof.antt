@@ -1,10 +1,8 @@
 -- `table_check::word_fits` meets its contract. Assumes nothing.
-use Rattle.table_check.proofs.Words.{text-lent}
-use Rattle.text.proofs.Tested.{broken, decided}
-use Rattle.words.specs.Words.{wordOk}
+use Rattle.table_check.proofs.Words.{word-uncut, word-parts}
+use Rattle.text.proofs.Tested.{broken, decided, no, yes}
 use Rattle.text.proofs.Conditions.{_also_, none-left}
 use borrow.Author.Tests.{eq-eqb, ne-eqb, le-leb, lt-leb}
-use mathlib.Core.Path.{ap, _∙_}
 use borrow.Author.Needs.{needs}
 use Rattle.table_check.proofs.word_fits.Statement.{statement}
 use Rattle.table_check.proofs.word_fits.Tie as tie
@@ -17,9 +15,15 @@ returns-2 c = broken _ 1 (lt-leb _ _ (c .if2 .taken))
 
 returns-3 : tie.Need-returns-3
 returns-3 c =
-    let d = c .before .before in
-    let a = d .before .before .before .before .before .args in
-    decided (eq-eqb _ _ (d .before .if1 .left) also le-leb _ _ (d .if2 .left) also none-left) (c .is-word .ensures ∙ ap (wordOk (a .limit)) (text-lent (a .texts .now) (a .w)))
+    let d = c .before .before .before in
+    broken _ 2 (word-uncut _ _ _ _ (d .before .before .before .before .pre) (d .if1 .left) (no (c .before .is-cut .ensures) (c .if3 .taken)))
+
+returns-4 : tie.Need-returns-4
+returns-4 c =
+    let k = c .before .before in
+    let d = k .before .before in
+    decided (eq-eqb _ _ (d .before .if1 .left) also le-leb _ _ (d .if2 .left) also none-left)
+    (word-parts _ _ _ _ (d .before .before .before .before .before .pre) (d .before .if1 .left) (yes (k .before .is-cut .ensures) (k .if3 .left)) (c .few-parts .ensures))
 
 pub word-fits-spec : {M : Type 1} → statement M
 word-fits-spec =
@@ -30,8 +34,10 @@ word-fits-spec =
     (λ c. search needs)
     returns
     returns-2
+    (λ c κs. search needs)
+    returns-3
     (λ c. search needs)
     (λ c. search needs)
     (λ c. search needs)
     (λ c κs. search needs)
-    returns-3)
+    returns-4)

@@ -14,7 +14,7 @@ abbrev μ-loop : tie.MeasureT-loop
 μ-loop rows texts n limit f₀ i₀ f i = n - i
 
 loop-holds : tie.Need-loop-holds Inv-loop μ-loop
-loop-holds c = laying-first _ _ _ _ (c .before .before .pre)
+loop-holds c = laying-first _ _ _ _ (c .before .before .pre .0) (c .before .before .pre .1)
 
 returns : tie.Need-returns Inv-loop μ-loop
 returns c =

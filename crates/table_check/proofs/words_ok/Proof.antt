@@ -15,7 +15,7 @@ returns-2 c = words-unranked _ _ _ _ (sym (c .before .ranks-ok .ensures) ∙ not
 rising-ok-requires : tie.Need-rising-ok-requires
 rising-ok-requires c κs =
     let l = c .before .before in
-    words-inside _ _ _ _ (l .before .before .before .before .pre) (sym (l .before .words-laid .ensures) ∙ not-false _ (l .if1 .left)) (sym (c .before .ranks-ok .ensures) ∙ not-false _ (c .if2 .left))
+    words-inside _ _ _ _ (l .before .before .before .before .pre .0) (sym (l .before .words-laid .ensures) ∙ not-false _ (l .if1 .left)) (sym (c .before .ranks-ok .ensures) ∙ not-false _ (c .if2 .left))
 
 returns-3 : tie.Need-returns-3
 returns-3 c =

@@ -1,21 +1,20 @@
 -- `words::compare` meets its contract: `Level`, that the texts are the same up to i, is the invariant. Assumes nothing.
-use mathlib.Core.Path.{refl}
 use lib.ListN.{length}
 use Prim.Native.Nat.{_-_}
-use native.Mathlib.Omega.{arith}
 use borrow.Author.Needs.{needs}
-use Rattle.words.proofs.Total.{Level, level-short, level-long, level-last, level-less, level-more, level-next}
+use Rattle.words.specs.Read.{Level}
+use Rattle.words.proofs.Level.{level-short, level-long, level-last, level-less, level-greater, level-next}
 use Rattle.words.proofs.compare.Statement.{statement}
 use Rattle.words.proofs.compare.Tie as tie
 
 abbrev Inv-loop : tie.InvT-loop
-Inv-loop a b n m i₀ i = Level a b i
+Inv-loop a b n m i₀ i = Level a b 0 i
 
 abbrev μ-loop : tie.MeasureT-loop
 μ-loop a b n m i₀ i = length a - i
 
 loop-holds : tie.Need-loop-holds Inv-loop μ-loop
-loop-holds c = record { le = omega arith; also = omega arith; still = refl }
+loop-holds c = c .skip-same .ensures
 
 returns : tie.Need-returns Inv-loop μ-loop
 returns c = level-short (c .before .before .loop .inv) (c .before .loop-test .taken) (c .if1 .taken)
@@ -28,7 +27,7 @@ returns-2 c =
 returns-3 : tie.Need-returns-3 Inv-loop μ-loop
 returns-3 c =
     let w = c .before .before .before .before in
-    level-more (w .before .before .loop .inv) (w .before .loop-test .taken) (w .if1 .left) (c .before .if2 .left) (c .if3 .taken)
+    level-greater (w .before .before .loop .inv) (w .before .loop-test .taken) (w .if1 .left) (c .before .if2 .left) (c .if3 .taken)
 
 loop-again : tie.Need-loop-again Inv-loop μ-loop
 loop-again c =
@@ -47,6 +46,7 @@ compare-spec =
     (tie.spec
     Inv-loop
     μ-loop
+    (λ c κs. search needs)
     loop-holds
     returns
     (λ c. search needs)
