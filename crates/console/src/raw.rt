@@ -21,3 +21,14 @@ pub fn dump(b: &[u8], from: usize, to: usize) {
         at += 1;
     }
 }
+
+// A number that tells most bytes from others.
+pub fn fingerprint(b: &[u8]) -> u64 {
+    let mut h: u64 = 0;
+    let mut i = 0;
+    while i < b.len() {
+        h = (h * 31 + wide(b[i]) as u64) % 4294967296;
+        i += 1;
+    }
+    h
+}

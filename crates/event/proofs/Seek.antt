@@ -1,8 +1,8 @@
 -- The first line that has a key: the invariant of `find_line`. Assumes nothing.
-use mathlib.Core.Path.{_≡_, _∙_, refl, ap}
+use mathlib.Core.Path.{_≡_, _∙_, refl, sym, ap}
 use mathlib.Core.Bool.{true, false}
 use mathlib.Core.List.{List, [], _∷_}
-use Prim.Native.Nat.{ℕ, suc, _+_, _≤_, _<_}
+use Prim.Native.Nat.{ℕ, zero, suc, _+_, _≤_, _<_}
 use native.Mathlib.Omega.{arith}
 use lib.ListN.{length, getD, drop, drop-of-length-le}
 use Rattle.list.specs.Numbered.{numbered}
@@ -12,8 +12,10 @@ use Rattle.text.specs.Read.{Part}
 use Rattle.text.specs.Conditions.{anyOf}
 use Rattle.event.specs.Signals.{hasKey}
 use Rattle.event.specs.Match.{valueAt}
-use Rattle.event.specs.Places.{keyAt, lineAt, linesAt, LinesOk}
+use Rattle.event.specs.Places.{print, keyAt, lineAt, linesAt, LinesOk}
+use Rattle.event.specs.Blocks.{Others}
 use Rattle.event.specs.Steps.{FoundAt, Missing}
+use Rattle.event.proofs.Prints.{other-print}
 
 -- the places of a line's key
 pub key-part : {s starts mids prints : List ℕ} {n i : ℕ} → LinesOk s starts mids prints n → i < n → Part s (getD starts i 0) (getD mids i 0)
@@ -65,3 +67,13 @@ module _ {k s starts mids : List ℕ} {n i : ℕ} (g : Seeking k s starts mids n
       has = g .has ∙ rw (lines-next s starts mids n i h, anyOf, ← e);
       value = g .value ∙ rw (lines-next s starts mids n i h, valueAt, ← e);
     }
+
+-- the lines before r have other fingerprints
+pub seek-others : {k s starts mids prints : List ℕ} {h n r : ℕ} → LinesOk s starts mids prints n → h ≡ print k → r ≤ n → Others prints h 0 r → Seeking k s starts mids n r
+seek-others {k} {s} {starts} {mids} {prints} {h} {n} {r} l e w o = upto r (omega arith)
+  where
+    upto : (m : ℕ) → m ≤ r → Seeking k s starts mids n m
+    upto zero b = seek-first k s starts mids n
+    upto (suc m) b =
+        let d : suc m ≡ m + 1 = omega arith in
+        rw d (seek-more (upto m (omega arith)) (omega arith) (other-print k (keyAt s starts mids m) e (l .lines m (omega arith) .printed) (λ q. o .other m (omega arith) (omega arith) (sym q))))

@@ -2,4 +2,5 @@
 pub mod Signals
 pub mod Match
 pub mod Places
+pub mod Blocks
 pub mod Steps

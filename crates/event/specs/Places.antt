@@ -1,5 +1,5 @@
 -- What the code keeps of a bar's signals: places in their text and a fingerprint of each key; and the lines that these mean. Assumes nothing.
-use Prim.Native.Nat.{ℕ, _+_, _-_, _*_, _%_, _<_, _≤_}
+use Prim.Native.Nat.{ℕ, _+_, _-_, _*_, _/_, _%_, _<_, _≤_}
 use mathlib.Core.Path.{_≡_}
 use mathlib.Core.List.{List, [], _∷_}
 use lib.ListN.{length, getD}
@@ -10,13 +10,25 @@ use Rattle.event.specs.Signals.{Line, lineLimit, readSignals}
 use Rattle.event.specs.declared.SignalsRead.{SignalsRead}
 use Rattle.event.specs.declared.SignalsRead.the-variants.{Lines, PastLimit, NotUtf8, Malformed, Twice}
 
--- a number that equal texts share, so that most unequal ones need no comparison
+-- ---- a number that equal texts share, so that most unequal ones need no comparison
+
+-- a fingerprint with one number more
+abbrev pub mixed : ℕ → ℕ → ℕ
+mixed h w = (h * 2654435761 + w) % 4294967296
+
+-- by words of four bytes, then by bytes
 unfoldable pub printFrom : ℕ → List ℕ → ℕ
 printFrom h [] = h
-printFrom h (x ∷ s) = printFrom ((h * 31 + x) % 4294967296) s
+printFrom h (a ∷ []) = mixed h a
+printFrom h (a ∷ b ∷ []) = mixed (mixed h a) b
+printFrom h (a ∷ b ∷ c ∷ []) = mixed (mixed (mixed h a) b) c
+printFrom h (a ∷ b ∷ c ∷ d ∷ s) = printFrom (mixed h (a + 256 * (b + 256 * (c + 256 * d)))) s
 
+-- the upper half
 abbrev pub print : List ℕ → ℕ
-print s = printFrom 0 s
+print s = printFrom 0 s / 65536
+
+-- ---- places
 
 -- line i of s starts at starts[i], its `|` stands at mids[i], and the next line starts at starts[i + 1]
 abbrev pub keyAt : List ℕ → List ℕ → List ℕ → ℕ → List ℕ

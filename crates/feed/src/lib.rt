@@ -113,7 +113,7 @@ fn take_bar(
     s: &[u8],
     starts: &[usize],
     mids: &[usize],
-    prints: &[u64],
+    prints: &[u16],
     n: usize,
 ) -> Report
     requires { ⌜ isTable (now t) ≡ true ⌝ }
@@ -151,7 +151,7 @@ fn accept_bar(
     s: &[u8],
     starts: &[usize],
     mids: &[usize],
-    prints: &[u64],
+    prints: &[u16],
     n: usize,
 ) -> Feed
     requires { ⌜ isTable (now t) ≡ true ⌝ }
@@ -179,7 +179,7 @@ fn feed_signals(t: &[u8], b: &mut [u8], c: u32, bar: Bar, s: &[u8]) -> Feed
 {
     let mut starts = [0usize; 257];
     let mut mids = [0usize; 256];
-    let mut prints = [0u64; 256];
+    let mut prints = [0u16; 256];
     let read = read_signals(s, &mut starts, &mut mids, &mut prints);
     match read {
         SignalsRead::Lines(n) => accept_bar(t, b, c, bar, s, &starts, &mids, &prints, n),

@@ -137,7 +137,7 @@ fn clause_holds(
     s: &[u8],
     starts: &[usize],
     mids: &[usize],
-    prints: &[u64],
+    prints: &[u16],
     n: usize,
 ) -> bool
     requires { ⌜ isTable (now t) ≡ true ⌝ }
@@ -182,7 +182,7 @@ fn event_matches(
     s: &[u8],
     starts: &[usize],
     mids: &[usize],
-    prints: &[u64],
+    prints: &[u16],
     n: usize,
 ) -> bool
     requires { ⌜ isTable (now t) ≡ true ⌝ }
@@ -217,7 +217,7 @@ fn is_hit(
     s: &[u8],
     starts: &[usize],
     mids: &[usize],
-    prints: &[u64],
+    prints: &[u16],
     n: usize,
 ) -> bool
     requires { ⌜ isTable (now t) ≡ true ⌝ }
@@ -239,7 +239,7 @@ fn find_event(
     s: &[u8],
     starts: &[usize],
     mids: &[usize],
-    prints: &[u64],
+    prints: &[u16],
     n: usize,
 ) -> Match
     requires { ⌜ isTable (now t) ≡ true ⌝ }
@@ -268,7 +268,7 @@ pub fn first_match(
     s: &[u8],
     starts: &[usize],
     mids: &[usize],
-    prints: &[u64],
+    prints: &[u16],
     n: usize,
 ) -> Match
     requires { ⌜ isTable (now t) ≡ true ⌝ }

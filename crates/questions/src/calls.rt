@@ -2,9 +2,9 @@
 use compile::compile;
 use console::ask;
 use console::ask::field;
+use console::raw::fingerprint;
 use console::show;
 use console::show::next;
-use event::fingerprint;
 use feed::Feed;
 use feed::feed_bar;
 use position::Decision;
@@ -19,7 +19,7 @@ use store::save;
 pub fn ended(n: u32, b: &[u8]) {
     show::number(n as u64);
     next();
-    show::number(fingerprint(b, 0, b.len()));
+    show::number(fingerprint(b));
 }
 
 // `C`: compiles the sheet s.

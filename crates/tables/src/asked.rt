@@ -2,10 +2,10 @@
 use compile::compile;
 use console::ask;
 use console::ask::field;
+use console::raw::fingerprint;
 use console::show;
 use console::show::next;
 use event::SignalsRead;
-use event::fingerprint;
 use event::read_signals;
 use matching::Match;
 use matching::first_match;
@@ -54,7 +54,7 @@ pub fn compiled(s: &[u8], table: &mut [u8]) {
     let r = compile(s, table);
     show::number(r.number() as u64);
     next();
-    show::number(fingerprint(table, 0, table.len()));
+    show::number(fingerprint(table));
 }
 
 // The event that is chosen, or `-`.
@@ -72,7 +72,7 @@ fn signals(s: &[u8], table: &[u8])
 {
     let mut starts = [0usize; 257];
     let mut mids = [0usize; 256];
-    let mut prints = [0u64; 256];
+    let mut prints = [0u16; 256];
     match read_signals(s, &mut starts, &mut mids, &mut prints) {
         SignalsRead::Lines(n) => chosen(first_match(table, s, &starts, &mids, &prints, n)),
         SignalsRead::PastLimit => show::number(7),

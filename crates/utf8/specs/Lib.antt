@@ -2,3 +2,4 @@
 pub mod Utf8
 pub mod Alone
 pub mod Read
+pub mod Common

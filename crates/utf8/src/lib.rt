@@ -1,6 +1,7 @@
 // UTF-8 (RFC 3629, section 4), and texts that stand alone.
 //
-// One pass: runs of ASCII are skipped in blocks of sixteen bytes, other characters are taken whole.
+// One pass: blocks of ASCII and of common characters are looked at as a whole, all others are taken one by one. Common are the characters of three bytes
+// that start with e1..ec, ee or ef, where the others are any tails: nearly all of Chinese.
 ghost use mathlib.Core.Path.{_≡_};
 ghost use mathlib.Core.Bool.{true};
 ghost use mathlib.Core.Option.{some};
@@ -9,9 +10,13 @@ ghost use lib.ListN.{length, getD, drop, replicate};
 ghost use Rattle.utf8.specs.Utf8.{tail, after, right, utf8};
 ghost use Rattle.utf8.specs.Alone.{alone};
 ghost use Rattle.utf8.specs.Read.{asks, ranges, Passed, CharAt, aloneOf};
+ghost use Rattle.utf8.specs.Common.{Tail, Start, Behind, Larger, ZeroFor};
 
 // The most bytes of a text.
 pub const TEXT_LIMIT: usize = 16384;
+
+// The bytes of a block of ASCII and common characters.
+const BLOCK: usize = 66;
 
 // What must follow a first byte: one byte in lo..hi, and `more` tails.
 pub struct Need {
@@ -168,24 +173,155 @@ fn skip_ascii(s: &[u8], i: usize) -> usize
     j
 }
 
+// Takes the ASCII from i on, or the character of several bytes at i.
+fn next(s: &[u8], i: usize) -> Char
+    requires { ⌜ i < length (now s) ⌝ }
+    ensures { λ r. ⌜ CharAt (now (s .entry)) (i + 1) (utf8 (drop i (now (s .entry)))) r ⌝ }
+{
+    if 0x7f < s[i] {
+        return character(s, i);
+    }
+    let j = skip_blocks(s, i + 1);
+    Char::Next(skip_ascii(s, j))
+}
+
+// The place a block behind i, or n where that is nearer.
+fn block_end(n: usize, i: usize) -> usize
+    requires { ⌜ i < n ⌝ }
+    ensures { λ r. ⌜ (i < r) × (r ≤ n) ⌝ }
+{
+    if n - i < BLOCK {
+        return n;
+    }
+    i + BLOCK
+}
+
+// Takes whole characters from i on, as many as make a block, or all.
+fn stretch(s: &[u8], i: usize) -> Char
+    requires { ⌜ i < length (now s) ⌝ }
+    ensures { λ r. ⌜ CharAt (now (s .entry)) (i + 1) (utf8 (drop i (now (s .entry)))) r ⌝ }
+{
+    let end = block_end(s.len(), i);
+    let mut j = i;
+    while j < end {
+        match next(s, j) {
+            Char::Next(r) => {
+                j = r;
+            }
+            Char::Wrong => {
+                return Char::Wrong;
+            }
+        }
+    }
+    Char::Next(j)
+}
+
+// The larger of two bytes.
+fn larger(p: u8, q: u8) -> u8
+    ensures { λ r. ⌜ Larger p q r ⌝ }
+{
+    if p < q {
+        return q;
+    }
+    p
+}
+
+// 0 where b is a tail, else 1.
+fn not_tail(b: u8) -> u8
+    ensures { λ r. ⌜ ZeroFor (Tail b) r ⌝ }
+{
+    if b < 0x80 {
+        return 1;
+    }
+    if 0xbf < b {
+        return 1;
+    }
+    0
+}
+
+// 0 where b is ASCII or starts a common character, else 1.
+fn not_start(b: u8) -> u8
+    ensures { λ r. ⌜ ZeroFor (Start b) r ⌝ }
+{
+    if b <= 0x7f {
+        return 0;
+    }
+    if b <= 0xe0 {
+        return 1;
+    }
+    if b == 0xed {
+        return 1;
+    }
+    if 0xef < b {
+        return 1;
+    }
+    0
+}
+
+// 0 where b can stand behind q and p in a text of ASCII and common characters, else 1.
+fn odd(q: u8, p: u8, b: u8) -> u8
+    ensures { λ r. ⌜ ZeroFor (Behind q p b) r ⌝ }
+{
+    if 0xe0 < larger(p, q) {
+        return not_tail(b);
+    }
+    not_start(b)
+}
+
+// Goes on from i past the whole characters of a block of ASCII and common ones, or stays at i where it has others: odd bytes are counted with no way out
+// before the end, so that the compiler looks at many at once.
+fn common_block(s: &[u8], i: usize) -> usize
+    requires { ⌜ i + 66 ≤ length (now s) ⌝ }
+    ensures { λ r. ⌜ Passed (now (s .entry)) i (utf8 (drop i (now (s .entry)))) r ⌝ }
+{
+    let end = i + BLOCK;
+    let mut odds = odd(0, 0, s[i]) + odd(0, s[i], s[i + 1]);
+    let mut k = i + 2;
+    while k < end {
+        odds += odd(s[k - 2], s[k - 1], s[k]);
+        k += 1;
+    }
+    if 0 < odds {
+        return i;
+    }
+    if 0xe0 < s[end - 1] {
+        return end - 1;
+    }
+    if 0xe0 < s[end - 2] {
+        return end - 2;
+    }
+    end
+}
+
+// Goes on from i in blocks of ASCII and common characters.
+fn skip_common(s: &[u8], i: usize) -> usize
+    requires { ⌜ i ≤ length (now s) ⌝ }
+    ensures { λ r. ⌜ Passed (now (s .entry)) i (utf8 (drop i (now (s .entry)))) r ⌝ }
+{
+    let n = s.len();
+    let mut j = i;
+    while BLOCK <= n - j {
+        let r = common_block(s, j);
+        if r == j {
+            return j;
+        }
+        j = r;
+    }
+    j
+}
+
 // Whether s is UTF-8.
 pub fn valid(s: &[u8]) -> bool
     ensures { λ r. ⌜ r ≡ utf8 (now (s .entry)) ⌝ }
 {
-    let n = s.len();
     let mut i = 0;
-    while i < n {
-        if s[i] <= 0x7f {
-            let j = skip_blocks(s, i + 1);
-            i = skip_ascii(s, j);
-        } else {
-            match character(s, i) {
-                Char::Next(r) => {
-                    i = r;
-                }
-                Char::Wrong => {
-                    return false;
-                }
+    while i < s.len() {
+        match stretch(s, i) {
+            Char::Next(r) => {
+                i = skip_common(s, r);
+            }
+            Char::Wrong => {
+                return false;
             }
         }
     }

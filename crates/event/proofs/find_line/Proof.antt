@@ -2,7 +2,7 @@
 use mathlib.Core.Path.{sym, _∙_}
 use Prim.Native.Nat.{_-_}
 use borrow.Author.Needs.{needs}
-use Rattle.event.proofs.Seek.{key-part, Seeking, seek-first, seek-last, seek-found, seek-more}
+use Rattle.event.proofs.Seek.{key-part, Seeking, seek-others, seek-last, seek-found, seek-more}
 use Rattle.event.proofs.find_line.Statement.{statement}
 use Rattle.event.proofs.find_line.Tie as tie
 
@@ -12,13 +12,20 @@ Inv-loop key h s starts mids prints n i₀ i = Seeking key s starts mids n i
 abbrev μ-loop : tie.MeasureT-loop
 μ-loop key h s starts mids prints n i₀ i = n - i
 
+skip-lines-requires : tie.Need-skip-lines-requires Inv-loop μ-loop
+skip-lines-requires c κs =
+    let l = c .before .before .before .before .before .pre .1 in
+    (l .few, l .prints-room)
+
 loop-holds : tie.Need-loop-holds Inv-loop μ-loop
-loop-holds c = seek-first _ _ _ _ _
+loop-holds c =
+    let a = c .before .before .before .before .before .before in
+    seek-others (a .pre .1) (a .pre .0) (c .skip-lines .ensures .0) (c .skip-lines .ensures .1)
 
 is-key-requires : tie.Need-is-key-requires Inv-loop μ-loop
 is-key-requires c κs =
     let w = c .before .before .before in
-    let a = w .before .before .before .before .before .before .before in
+    let a = w .before .before .before .before .before .before .before .before in
     ((a .pre .0, a .pre .1 .lines _ (w .loop-test .taken) .printed), key-part (a .pre .1) (w .loop-test .taken))
 
 returns : tie.Need-returns Inv-loop μ-loop
@@ -40,6 +47,7 @@ find-line-spec =
     (tie.spec
     Inv-loop
     μ-loop
+    skip-lines-requires
     loop-holds
     (λ c. search needs)
     (λ c. search needs)

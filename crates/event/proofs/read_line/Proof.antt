@@ -1,28 +1,36 @@
--- The LF, one `|` before it and no other. Assumes nothing.
+-- The `|`, the LF behind it, and no other end of a field before them. Assumes nothing.
 use borrow.Author.Needs.{needs}
-use Rattle.event.proofs.Fields.{line-cut, one-field, more-fields, two-fields}
+use Rattle.event.proofs.Fields.{mid-cut, mid-line, end-cut, end-bar, end-line}
 use Rattle.event.proofs.read_line.Statement.{statement}
 use Rattle.event.proofs.read_line.Tie as tie
 
 returns : tie.Need-returns
-returns c = line-cut (c .before .before .before .pre) (c .before .find .ensures) (c .if1 .taken)
+returns c = mid-cut (c .before .before .before .pre) (c .before .field-end .ensures) (c .if1 .taken)
 
 returns-2 : tie.Need-returns-2
 returns-2 c =
     let w = c .before .before in
-    one-field (w .before .before .before .pre) (w .before .find .ensures) (w .if1 .left) (c .before .find2 .ensures) (c .if2 .taken)
+    mid-line (w .before .before .before .pre) (w .before .field-end .ensures) (w .if1 .left) (c .if2 .taken)
 
 returns-3 : tie.Need-returns-3
 returns-3 c =
     let v = c .before .before in
     let w = v .before .before in
-    more-fields (w .before .before .before .pre) (w .before .find .ensures) (w .if1 .left) (v .before .find2 .ensures) (v .if2 .left) (c .before .find3 .ensures) (c .if3 .taken)
+    end-cut (w .before .before .before .pre) (w .before .field-end .ensures) (w .if1 .left) (v .if2 .left) (c .before .field-end2 .ensures) (c .if3 .taken)
 
 returns-4 : tie.Need-returns-4
 returns-4 c =
-    let v = c .before .before in
+    let u = c .before .before in
+    let v = u .before .before in
     let w = v .before .before in
-    two-fields (w .before .before .before .pre) (w .before .find .ensures) (w .if1 .left) (v .before .find2 .ensures) (v .if2 .left) (c .before .find3 .ensures) (c .if3 .left)
+    end-bar (w .before .before .before .pre) (w .before .field-end .ensures) (w .if1 .left) (v .if2 .left) (u .before .field-end2 .ensures) (u .if3 .left) (c .if4 .taken)
+
+returns-5 : tie.Need-returns-5
+returns-5 c =
+    let u = c .before .before in
+    let v = u .before .before in
+    let w = v .before .before in
+    end-line (w .before .before .before .pre) (w .before .field-end .ensures) (w .if1 .left) (v .if2 .left) (u .before .field-end2 .ensures) (u .if3 .left) (c .if4 .left)
 
 pub read-line-spec : {M : Type 1} → statement M
 read-line-spec =
@@ -30,9 +38,11 @@ read-line-spec =
     (tie.spec
     (λ c κs. search needs)
     returns
-    (λ c κs. search needs)
+    (λ c. search needs)
     returns-2
     (λ c. search needs)
     (λ c κs. search needs)
     returns-3
-    returns-4)
+    (λ c. search needs)
+    returns-4
+    returns-5)
