@@ -1,13 +1,13 @@
 -- A block of a book that passed the full check, and each refusal. Assumes nothing.
 use Prim.Native.Nat.{ℕ, _<_, _≤_}
-use mathlib.Core.Path.{_≡_, _∙_, refl, sym, ap}
-use mathlib.Core.Bool.{false, true≢false}
+use mathlib.Core.Path.{_≡_, _∙_, refl, sym, ap, subst}
+use mathlib.Core.Bool.{true, false, true≢false}
 use mathlib.Core.List.{List}
 use mathlib.Core.Option.{none, some}
 use borrow.Author.Tests.{le-leb, lt-leb}
 use lib.Dec.{leb}
 use lib.IntN.{ℤ, pos, negsuc, natAbs}
-use lib.ListN.{length, drop}
+use lib.ListN.{length, drop, getElem?}
 use lib.Signed.{ltZ}
 use mir.Syntax.{w64}
 use mir.Val.{SFits}
@@ -20,6 +20,7 @@ use Rattle.table.specs.Layout.{partsIn}
 use Rattle.table.specs.Table.{sheetOf}
 use Rattle.book.specs.Calls.{checked}
 use Rattle.rows.specs.Calls.{rowAt}
+use Rattle.rows.proofs.Index.{index-below, index-is}
 use Rattle.header.specs.Size.{SizedAs}
 use Rattle.header.specs.declared.Sized.the-variants.{Bars, Wrong}
 use Rattle.book_check.specs.Read.{CheckedAs}
@@ -32,18 +33,32 @@ use Rattle.blocks.specs.declared.BlockRead.the-variants.{Rows, WrongLeng
 
 -- ---- the rows of a book
 
-module _ (rows : List (List ℕ)) (i : ℤ) (before : List ℕ) where
-  pub block-none : rowAt rows i ≡ none → BlockAs (blockFrom rows i (length before)) before before PastLast
-  block-none e = record { is = rw e; bytes = rw e }
-
-  pub block-rows : {r after : List ℕ} {q : Block} → rowAt rows i ≡ some r → Filled (rowsFrom rows i) before after q
-      → BlockAs (blockFrom rows i (length before)) before after (Rows q)
-  block-rows e f = record { is = rw e (ap Got (f .is)); bytes = rw e (f .bytes) }
-
 -- those from an index on, as the machine has it
-pub from-is : {X : Type 0} (rows : List X) (i : ℤ) → SFits w64 i → ltZ (back w64 i) (pos 0) ≡ false → rowsFrom rows i ≡ drop (natAbs (back w64 i)) rows
+from-is : {X : Type 0} (rows : List X) (i : ℤ) → SFits w64 i → ltZ (back w64 i) (pos 0) ≡ false → rowsFrom rows i ≡ drop (natAbs (back w64 i)) rows
 from-is rows (pos n) F t = ap (λ (z : ℤ). drop (natAbs z) rows) (sym (toZ-ofZ {w = w64} F))
 from-is rows (negsuc n) F t = absurd (true≢false (sign F t))
+
+module _ (rows : List (List ℕ)) (i : ℤ) (before : List ℕ) (F : SFits w64 i) where
+  none-there : rowAt rows i ≡ none → BlockAs (blockFrom rows i (length before)) before before PastLast
+  none-there e = record { is = rw e; bytes = rw e }
+
+  pub block-below : ltZ (back w64 i) (pos 0) ≡ true → BlockAs (blockFrom rows i (length before)) before before PastLast
+  block-below t = none-there (index-below rows i F t)
+
+  module _ (t : ltZ (back w64 i) (pos 0) ≡ false) where
+    pub block-past : getElem? rows (natAbs (back w64 i)) ≡ none → BlockAs (blockFrom rows i (length before)) before before PastLast
+    block-past e = none-there (index-is rows i F t ∙ e)
+
+    pub block-rows : {r after : List ℕ} {q : Block} → getElem? rows (natAbs (back w64 i)) ≡ some r → Filled (drop (natAbs (back w64 i)) rows) before after q
+        → BlockAs (blockFrom rows i (length before)) before after (Rows q)
+    block-rows {r} {after} {q} e f =
+        let there : rowAt rows i ≡ some r = index-is rows i F t ∙ e in
+        let those : Filled (rowsFrom rows i) before after q = subst (λ (l : List (List ℕ)). Filled l before after q) (sym (from-is rows i F t)) f in
+        record { is = rw there (ap Got (those .is)); bytes = rw there (those .bytes) }
+
+  -- handed on, the index is read back
+  pub block-back : {after : List ℕ} {r : BlockRead} → BlockAs (blockFrom rows (back w64 i) (length before)) before after r → BlockAs (blockFrom rows i (length before)) before after r
+  block-back {after} {r} w = subst (λ (z : ℤ). BlockAs (blockFrom rows z (length before)) before after r) (toZ-ofZ {w = w64} F) w
 
 -- ---- the whole answer
 

@@ -20,7 +20,7 @@ use Rattle.book.specs.Layout.{recordsOf, holdsOf}
 use Rattle.book.specs.Calls.{sized, checked}
 use Rattle.book.proofs.Lengths.{yield-length}
 use Rattle.rows.specs.Calls.{rowBuffer, rowAt, pairDo, holdDo}
-use Rattle.blocks.specs.Blocks.{holdRowBytes, holdRowLength, pairRowBytes, pairRowLimit, fitting, rowsFrom, blockDo, holdBlockDo, pairBlockDo}
+use Rattle.blocks.specs.Blocks.{holdRowBytes, holdRowLength, pairRowBytes, pairRowLimit, fitting, rowsFrom, blockDo, holdBlock, pairBlock, holdBlockDo, pairBlockDo}
 
 -- ---- lists
 
@@ -118,7 +118,7 @@ module _ {limit : ℕ} {rows : ℕ → Sheet → List (List ℕ)} {t b : List �
 
 -- ---- holds
 
-hold-long : (o : HoldRow) → length (holdRowBytes o) ≡ holdRowLength
+pub hold-long : (o : HoldRow) → length (holdRowBytes o) ≡ holdRowLength
 unfolding holdRowBytes leBytes
 hold-long o = rw (yield-length (o .n1b))
 
@@ -128,8 +128,8 @@ row-of f xs (pos n) r e = at-map f xs n r e
 row-of f xs (negsuc n) r e = absurd (let z : _≡_ {A = ℕ} 0 1 = cc in omega arith)
 
 module _ (t b : List ℕ) (i : ℤ) (out : List ℕ) (block : List (List ℕ)) (e : holdBlockDo t b i out ≡ Got block) where
-  held : Answered holdRowLength (λ c s. map holdRowBytes (holdRows (holdsOf b))) t b i out block
-  held = answered holdRowLength (λ c s. map holdRowBytes (holdRows (holdsOf b))) t b i out block e
+  held : Answered holdRowLength (λ c s. holdBlock b) t b i out block
+  held = answered holdRowLength (λ c s. holdBlock b) t b i out block e
 
   -- hold row number k of a block that starts with number i is row number i + k
   pub hold-single : (k : ℕ) (r : List ℕ) → getElem? block k ≡ some r → (o : HoldRow) × (holdDo t b (i +ℤ pos k) ≡ Got o) × (holdRowBytes o ≡ r)
@@ -146,8 +146,8 @@ module _ (t b : List ℕ) (i : ℤ) (out : List ℕ) (block : List (List ℕ)) (
 -- ---- pairs
 
 module _ (t b : List ℕ) (i : ℤ) (out : List ℕ) (block : List (List ℕ)) (e : pairBlockDo t b i out ≡ Got block) where
-  pub traded : Answered pairRowLimit (λ c s. map pairRowBytes (pairsOf s (recordsOf c b))) t b i out block
-  traded = answered pairRowLimit (λ c s. map pairRowBytes (pairsOf s (recordsOf c b))) t b i out block e
+  pub traded : Answered pairRowLimit (λ c s. pairBlock s c b) t b i out block
+  traded = answered pairRowLimit (λ c s. pairBlock s c b) t b i out block e
 
   -- pair row number k of a block that starts with number i is row number i + k, with its texts behind its numbers
   pub pair-single : (buffer : List ℕ) → rowBuffer ≤ length buffer → (k : ℕ) (r : List ℕ) → getElem? block k ≡ some r

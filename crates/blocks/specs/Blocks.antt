@@ -69,11 +69,18 @@ blockDo limit rows table b i out = do
   s ← checked table c b
   blockFrom (rows c s) i (length out)
 
+-- all hold rows and all pair rows of a book
+abbrev pub holdBlock : List ℕ → List (List ℕ)
+holdBlock b = map holdRowBytes (holdRows (holdsOf b))
+
+abbrev pub pairBlock : Sheet → ℕ → List ℕ → List (List ℕ)
+pairBlock s c b = map pairRowBytes (pairsOf s (recordsOf c b))
+
 abbrev pub holdBlockDo : List ℕ → List ℕ → ℤ → List ℕ → Answer (List (List ℕ))
-holdBlockDo table b i out = blockDo holdRowLength (λ c s. map holdRowBytes (holdRows (holdsOf b))) table b i out
+holdBlockDo table b i out = blockDo holdRowLength (λ c s. holdBlock b) table b i out
 
 abbrev pub pairBlockDo : List ℕ → List ℕ → ℤ → List ℕ → Answer (List (List ℕ))
-pairBlockDo table b i out = blockDo pairRowLimit (λ c s. map pairRowBytes (pairsOf s (recordsOf c b))) table b i out
+pairBlockDo table b i out = blockDo pairRowLimit (λ c s. pairBlock s c b) table b i out
 
 -- how many they are, and the length of their bytes
 abbrev pub blockOf : List (List ℕ) → Block
