@@ -1,0 +1,1 @@
+-- The laws of blocks of pair rows.
