@@ -9,8 +9,9 @@ use mathlib.Core.Path.{_≡_, _∙_, refl, sym, ap}
 use borrow.Author.Tests.{le-leb, leb-true}
 use lib.Dec.{leb}
 use lib.IntN.{ℤ, pos, negsuc, _+ℤ_}
-use lib.ListN.{length, drop, getElem?}
+use lib.ListN.{length, drop, getElem?, length-append}
 use Rattle.le.specs.Le.{leBytes}
+use Rattle.le.proofs.Laws.{length-leBytes}
 use Rattle.text.specs.Answer.{Answer, Got, _>>=_, given}
 use Rattle.text.proofs.Answers.{got-from, must-got, got-same}
 use Rattle.sheet.specs.Sheet.{Sheet}
@@ -19,7 +20,7 @@ use Rattle.position.specs.declared.HoldRow.{HoldRow}
 use Rattle.book.specs.Layout.{recordsOf, holdsOf}
 use Rattle.book.specs.Calls.{sized, checked}
 use Rattle.book.proofs.Lengths.{yield-length}
-use Rattle.rows.specs.Calls.{rowBuffer, rowAt, pairDo, holdDo}
+use Rattle.rows.specs.Calls.{rowBuffer, rowAt, pairText, pairDo, holdDo}
 use Rattle.blocks.specs.Blocks.{holdRowBytes, holdRowLength, pairRowBytes, pairRowLimit, fitting, rowsFrom, blockDo, holdBlock, pairBlock, holdBlockDo, pairBlockDo}
 
 -- ---- lists
@@ -144,6 +145,11 @@ module _ (t b : List ℕ) (i : ℤ) (out : List ℕ) (block : List (List ℕ)) (
       row-some held (omega (arith, leb-true holdRowLength (length out) (held .room), ap length (row .2), hold-long (row .0)))
 
 -- ---- pairs
+
+-- 88 bytes and the texts
+pub pair-long : (p : Pair) → length (pairRowBytes p) ≡ 88 + length (pairText p)
+unfolding pairRowBytes
+pair-long p = simp length-append (simp length-leBytes (omega (arith, yield-length (p .yield))))
 
 module _ (t b : List ℕ) (i : ℤ) (out : List ℕ) (block : List (List ℕ)) (e : pairBlockDo t b i out ≡ Got block) where
   pub traded : Answered pairRowLimit (λ c s. pairBlock s c b) t b i out block

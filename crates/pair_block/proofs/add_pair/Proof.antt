@@ -1,67 +1,65 @@
+-- The row is made in its own buffer, and written where it fits. Assumes nothing.
+use Prim.Native.Nat.{_+_}
+use native.Mathlib.Omega.{arith}
+use mathlib.Core.Path.{refl}
 use borrow.Author.Needs.{needs}
+use Rattle.table.specs.Layout.{partsIn}
+use Rattle.table.specs.Table.{sheetOf}
+use Rattle.pairs.specs.Found.{pairFrom}
+use Rattle.pairs.proofs.Numbers.{pair-numbers, record-priced}
+use Rattle.pair_block.specs.Row.{RowNumbers}
+use Rattle.pair_block.proofs.Made.{Made, made, made-full, made-put, made-numbers}
 use Rattle.pair_block.proofs.add_pair.Statement.{statement}
 use Rattle.pair_block.proofs.add_pair.Tie as tie
-use Rattle.pair_block.proofs.add_pair.Reads as reads
-use Rattle.pair_block.proofs.add_pair.Lts as lts
-use Rattle.pair_block.proofs.put_row.Reads as put-row-reads
-use Rattle.pairs.proofs.pair_at.Reads as pair-at-reads
 
--- src/lib.rt:112:33
-slice-aggregate-pair-at : tie.Need-slice-aggregate-pair-at
-slice-aggregate-pair-at c = search needs
+abbrev start : tie.After-pair-at → tie.Start
+start c = c .before .before .before .before .before
 
--- src/lib.rt:112:9
-pair-at-requires : tie.Need-pair-at-requires
-pair-at-requires c κs = search needs
+row : (c : tie.After-pair-at) → let a = start c .args in Made (pairFrom (sheetOf (partsIn (a .t .now))) (a .c) (a .b .now) (a .j)) (c .pair-at .result) (c .pair-at .last .1 .1 .1 .1 .0)
+row c = made refl (c .pair-at .kept .1 .1 .1 .1 .0) (c .pair-at .ensures)
 
--- src/lib.rt:113:13
+-- the prices of the two records are finite
+numbers : (c : tie.After-pair-at) → RowNumbers (c .pair-at .result)
+numbers c =
+    let a = start c in
+    let h = a .pre .1 .0 in
+    let l = a .pre .1 .1 .0 in
+    let j = a .args .j in
+    made-numbers (row c) (pair-numbers _ _ _ (record-priced h j (omega (arith, l))) (record-priced h (j + 1) l))
+
 add-n : tie.Need-add-n
-add-n c = ?
+add-n c = omega (arith, row (c .before .before) .fit)
 
--- src/lib.rt:113:13
 add-n-2 : tie.Need-add-n-2
-add-n-2 c = ?
+add-n-2 c = omega (arith, row (c .before .before .before) .fit)
 
--- src/lib.rt:114:8
-sub-if1 : tie.Need-sub-if1
-sub-if1 c = search needs
-
--- src/lib.rt:114:25
 add-if1 : tie.Need-add-if1
-add-if1 c = ?
+add-if1 c = omega (arith, row (c .before .before .before) .fit)
 
--- src/lib.rt:115:9
 returns : tie.Need-returns
-returns c = ?
+returns c = (made-full (row (c .before .before .before .before)) _ _ (c .if1 .taken), refl)
 
--- src/lib.rt:117:37
-slice-aggregate-put-row : tie.Need-slice-aggregate-put-row
-slice-aggregate-put-row c = search needs
-
--- src/lib.rt:117:17
 put-row-requires : tie.Need-put-row-requires
-put-row-requires c κs = ?
+put-row-requires c κs =
+    let w = c .before .before .before .before .before .before in
+    let a = start w in
+    (omega (arith, row w .fit, row w .size), (omega (arith, c .before .before .if1 .left, a .pre .1 .1 .1), numbers w))
 
--- src/lib.rt:104:1
-same-length : tie.Need-same-length
-same-length c = search needs
-
--- src/lib.rt:104:1
 returns-2 : tie.Need-returns-2
-returns-2 c = ?
+returns-2 c = made-put (row (c .before .before .before .before .before .before .before .before .before)) (c .before .before .put-row .ensures)
 
 pub add-pair-spec : {M : Type 1} → statement M
 add-pair-spec =
     tie.close
     (tie.spec
-    slice-aggregate-pair-at
-    pair-at-requires
+    (λ c. search needs)
+    (λ c κs. search needs)
     add-n
     add-n-2
-    sub-if1
+    (λ c. search needs)
     add-if1
     returns
-    slice-aggregate-put-row
+    (λ c. search needs)
     put-row-requires
-    same-length
+    (λ c. search needs)
     returns-2)

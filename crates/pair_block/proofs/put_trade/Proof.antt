@@ -1,102 +1,43 @@
+-- Six fields, one behind another. Assumes nothing.
+use mathlib.Core.Path.{_∙_}
 use borrow.Author.Needs.{needs}
+use mir.Syntax.{w32, w64}
+use mir.Facts.{toZ-ofZ}
+use Rattle.pair_block.proofs.Row.{trade-put}
 use Rattle.pair_block.proofs.put_trade.Statement.{statement}
 use Rattle.pair_block.proofs.put_trade.Tie as tie
-use Rattle.pair_block.proofs.put_trade.Reads as reads
-use Rattle.pair_block.proofs.put_trade.Lts as lts
-use Rattle.bar.proofs.LocalTime.micros.Reads as micros-reads
-use Rattle.hold_block.proofs.present.Reads as present-reads
-use Rattle.le.proofs.put_f64.Reads as put-f64-reads
-use Rattle.le.proofs.put_i32.Reads as put-i32-reads
-use Rattle.le.proofs.put_i64.Reads as put-i64-reads
-use Rattle.le.proofs.put_u32.Reads as put-u32-reads
-use Rattle.pair_block.proofs.side_sign.Reads as side-sign-reads
 
--- src/lib.rt:68:22
-side-sign-requires : tie.Need-side-sign-requires
-side-sign-requires c κs = search needs
-
--- src/lib.rt:68:5
-put-i32-requires : tie.Need-put-i32-requires
-put-i32-requires c κs = search needs
-
--- src/lib.rt:69:18
-add-put-u32 : tie.Need-add-put-u32
-add-put-u32 c = search needs
-
--- src/lib.rt:69:26
-present-requires : tie.Need-present-requires
-present-requires c κs = search needs
-
--- src/lib.rt:69:5
-put-u32-requires : tie.Need-put-u32-requires
-put-u32-requires c κs = search needs
-
--- src/lib.rt:70:18
-add-put-i64 : tie.Need-add-put-i64
-add-put-i64 c = search needs
-
--- src/lib.rt:70:26
-micros-requires : tie.Need-micros-requires
-micros-requires c κs = search needs
-
--- src/lib.rt:70:5
-put-i64-requires : tie.Need-put-i64-requires
-put-i64-requires c κs = search needs
-
--- src/lib.rt:71:18
-add-put-i64-2 : tie.Need-add-put-i64-2
-add-put-i64-2 c = search needs
-
--- src/lib.rt:71:27
-micros-requires-2 : tie.Need-micros-requires-2
-micros-requires-2 c κs = search needs
-
--- src/lib.rt:71:5
-put-i64-requires-2 : tie.Need-put-i64-requires-2
-put-i64-requires-2 c κs = search needs
-
--- src/lib.rt:72:18
-add-put-f64 : tie.Need-add-put-f64
-add-put-f64 c = search needs
-
--- src/lib.rt:72:5
-put-f64-requires : tie.Need-put-f64-requires
-put-f64-requires c κs = search needs
-
--- src/lib.rt:73:18
-add-put-f64-2 : tie.Need-add-put-f64-2
-add-put-f64-2 c = search needs
-
--- src/lib.rt:73:5
-put-f64-requires-2 : tie.Need-put-f64-requires-2
-put-f64-requires-2 c κs = search needs
-
--- src/lib.rt:59:1
-same-length : tie.Need-same-length
-same-length c = search needs
-
--- src/lib.rt:59:1
 returns : tie.Need-returns
-returns c = ?
+returns c =
+    let c6 = c .before .before in
+    let c5 = c6 .before .before .before .before in
+    let c4 = c5 .before .before .before .before in
+    let c3 = c4 .before .before .before .before .before in
+    let c2 = c3 .before .before .before .before .before in
+    let c1 = c2 .before .before .before .before .before in
+    let a = c1 .before .before .before .before .before .before in
+    trade-put (a .args .p) (a .pre .0) (toZ-ofZ {w = w32} (record { sfits = c1 .before .side-sign .ok }) ∙ c1 .before .side-sign .ensures) (c2 .before .present .ensures)
+    (toZ-ofZ {w = w64} (record { sfits = c3 .before .micros .ok }) ∙ c3 .before .micros .ensures) (toZ-ofZ {w = w64} (record { sfits = c4 .before .micros2 .ok }) ∙ c4 .before .micros2 .ensures)
+    (c1 .put-i32 .ensures) (c2 .put-u32 .ensures) (c3 .put-i64 .ensures) (c4 .put-i642 .ensures) (c5 .put-f64 .ensures) (c6 .put-f642 .ensures)
 
 pub put-trade-spec : {M : Type 1} → statement M
 put-trade-spec =
     tie.close
     (tie.spec
-    side-sign-requires
-    put-i32-requires
-    add-put-u32
-    present-requires
-    put-u32-requires
-    add-put-i64
-    micros-requires
-    put-i64-requires
-    add-put-i64-2
-    micros-requires-2
-    put-i64-requires-2
-    add-put-f64
-    put-f64-requires
-    add-put-f64-2
-    put-f64-requires-2
-    same-length
+    (λ c κs. search needs)
+    (λ c κs. search needs)
+    (λ c. search needs)
+    (λ c κs. search needs)
+    (λ c κs. search needs)
+    (λ c. search needs)
+    (λ c κs. search needs)
+    (λ c κs. search needs)
+    (λ c. search needs)
+    (λ c κs. search needs)
+    (λ c κs. search needs)
+    (λ c. search needs)
+    (λ c κs. search needs)
+    (λ c. search needs)
+    (λ c κs. search needs)
+    (λ c. search needs)
     returns)

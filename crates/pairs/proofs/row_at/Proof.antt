@@ -1,5 +1,4 @@
 -- An index below 0, no such pair, or the pair that was found. Assumes nothing.
-use Prim.Native.Nat.{ℕ}
 use mathlib.Core.Path.{_∙_, subst}
 use borrow.Author.Needs.{needs}
 use lib.IntN.{natAbs}
