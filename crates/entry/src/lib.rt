@@ -54,7 +54,7 @@ fn yield_flag(y: Yield) -> u8
 }
 
 // Writes a yield from `at` on: zeros where it is absent.
-fn put_yield(b: &mut [u8], at: usize, y: Yield)
+pub fn put_yield(b: &mut [u8], at: usize, y: Yield)
     requires { ⌜ at + 8 ≤ length (now b) ⌝ }
     requires { ⌜ yieldOk y ≡ true ⌝ }
     ensures { λ _. ⌜ now (b .exit) ≡ patch (now (b .entry)) at (yieldBytes y) ⌝ }

@@ -56,7 +56,7 @@ row-none b k l =
 
 -- the hold as it is read from the part that is lent
 module _ {b : List ℕ} (h : Held b) (k : ℕ) (l : k < u32 b 0) {o : Hold} (e : o ≡ holdOf (take (holdPlace k + 32 - holdPlace k) (drop (holdPlace k) b))) where
-  read-is : o ≡ holdOf (part b (holdPlace k) 32)
+  pub read-is : o ≡ holdOf (part b (holdPlace k) 32)
   read-is = e ∙ ap holdOf (part-lent b (holdPlace k) 32)
 
   pub read-time : timeOk (o .time) ≡ true

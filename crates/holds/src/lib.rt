@@ -46,7 +46,7 @@ impl HoldRead {
 }
 
 // The row of a hold.
-fn row_of(o: Hold) -> HoldRow
+pub fn row_of(o: Hold) -> HoldRow
     requires { ⌜ timeOk (o .time) ≡ true ⌝ }
     ensures { λ r. ⌜ r ≡ holdRow o ⌝ }
 {

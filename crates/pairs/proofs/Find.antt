@@ -1,22 +1,23 @@
 -- The search of a pair: records are passed, and those that open are counted. Assumes nothing.
-use Prim.Native.Nat.{ℕ, suc, _+_, _-_, _*_, _<_, _≤_}
+use Prim.Native.Nat.{ℕ, zero, suc, _+_, _-_, _*_, _<_, _≤_}
 use native.Mathlib.Omega.{arith}
 use mathlib.Core.Path.{_≡_, _∙_, refl, sym, ap}
 use mathlib.Core.Bool.{Bool, true, false, _||_}
 use mathlib.Core.List.{List, [], _∷_}
 use mathlib.Core.Option.{none, some}
 use lib.Dec.{eqb}
-use lib.ListN.{length, getD, getElem?, drop, length-map, length-drop, List·getD-map}
+use lib.ListN.{length, getD, getElem?, drop, length-map, length-drop, drop-of-length-le, List·getD-map}
 use lib.Seq.{drop-cons, getD-take, getD-drop}
 use Rattle.le.specs.Le.{part}
 use Rattle.le.specs.Field.{u8, u32}
+use Rattle.list.proofs.Elements.{next-at}
 use Rattle.operate.specs.Operate.{LO, SO}
 use Rattle.sheet.specs.Sheet.{Sheet}
 use Rattle.position.specs.Rows.{pairOf, pairsOf, opens}
 use Rattle.position.specs.declared.Record.{Record}
 use Rattle.book.specs.Layout.{recordPlace, recordOf, recordSlots, recordsOf}
 use Rattle.book.proofs.Slots.{slots-length, slots-at}
-use Rattle.pairs.specs.Found.{recordAt, FoundAs}
+use Rattle.pairs.specs.Found.{recordAt, pairFrom, FoundAs}
 use Rattle.pairs.specs.declared.FoundPair.the-variants.{At, Nowhere}
 
 -- ---- the records of a book
@@ -51,38 +52,43 @@ module _ (c : ℕ) (b : List ℕ) where
 -- ---- pairs of a list of records
 
 module _ (s : Sheet) where
-  pairs-first : (a z : Record) (rs : List Record) → opens a ≡ true → getElem? (pairsOf s (a ∷ z ∷ rs)) 0 ≡ some (pairOf s a z)
+  pairs-first : (a z : Record) (rs : List Record) → opens a ≡ true → pairsOf s (a ∷ z ∷ rs) ≡ pairOf s a z ∷ pairsOf s (z ∷ rs)
   unfolding pairsOf
   pairs-first a z rs h = rw h
 
-  pairs-later : (a z : Record) (rs : List Record) (k : ℕ) → opens a ≡ true → getElem? (pairsOf s (a ∷ z ∷ rs)) (suc k) ≡ getElem? (pairsOf s (z ∷ rs)) k
+  pairs-past : (a z : Record) (rs : List Record) → opens a ≡ false → pairsOf s (a ∷ z ∷ rs) ≡ pairsOf s (z ∷ rs)
   unfolding pairsOf
-  pairs-later a z rs k h = rw h
+  pairs-past a z rs h = rw h
 
-  pairs-past : (a z : Record) (rs : List Record) (k : ℕ) → opens a ≡ false → getElem? (pairsOf s (a ∷ z ∷ rs)) k ≡ getElem? (pairsOf s (z ∷ rs)) k
+  pairs-none : (rs : List Record) → length rs ≤ 1 → pairsOf s rs ≡ []
   unfolding pairsOf
-  pairs-past a z rs k h = rw h
+  pairs-none [] h = refl
+  pairs-none (a ∷ []) h = refl
+  pairs-none (a ∷ z ∷ rs) h = absurd (omega arith)
 
-  pairs-none : (rs : List Record) (k : ℕ) → length rs ≤ 1 → getElem? (pairsOf s rs) k ≡ none
-  unfolding pairsOf
-  pairs-none [] k h = refl
-  pairs-none (a ∷ []) k h = refl
-  pairs-none (a ∷ z ∷ rs) k h = absurd (omega arith)
+-- nothing is left of a list from its end on
+none-left : {X : Type 0} (xs : List X) (i : ℕ) → drop i xs ≡ [] → getElem? xs i ≡ none
+none-left [] i e = refl
+none-left (x ∷ xs) zero e = cc
+none-left (x ∷ xs) (suc i) e = none-left xs i e
 
--- ---- the loop: before record number j, whose operate is at `at`, pair number i is pair number `left` of what is left
+-- ---- the loop: before record number j, whose operate is at `at`, the pairs from number i on are those from number `left` on of what is left
 
-pub record Seeking (c : ℕ) (b : List ℕ) (i at left j : ℕ) : Type 0 where
+pub record Seeking (c : ℕ) (b : List ℕ) (from i at left j : ℕ) : Type 0 where
+  pub begun : from ≤ j
   pub le : j ≤ u32 b 4
   pub here : at ≡ recordPlace c j + 24
-  pub still : (s : Sheet) → getElem? (pairsOf s (drop j (recordsOf c b))) left ≡ getElem? (pairsOf s (recordsOf c b)) i
+  pub still : (s : Sheet) → drop i (pairsOf s (drop from (recordsOf c b))) ≡ drop left (pairsOf s (drop j (recordsOf c b)))
 
-pub seeking-first : (c : ℕ) (b : List ℕ) (i : ℕ) → Seeking c b i (96 + 32 * c + 24) i 0
-seeking-first c b i = record { le = omega arith; here = omega arith; still = λ s. refl }
+pub seeking-first : (c : ℕ) (b : List ℕ) (from i : ℕ) → from ≤ u32 b 4 → Seeking c b from i (96 + 32 * c + 32 * from + 24) i from
+seeking-first c b from i h = record { begun = omega arith; le = h; here = omega arith; still = λ s. refl }
 
-module _ {c : ℕ} {b : List ℕ} {i at left j : ℕ} (r : Seeking c b i at left j) where
-  pub seeking-last : u32 b 4 ≤ j + 1 → FoundAs c b i Nowhere
+module _ {c : ℕ} {b : List ℕ} {from i at left j : ℕ} (r : Seeking c b from i at left j) where
+  pub seeking-last : u32 b 4 ≤ j + 1 → FoundAs c b from i Nowhere
   seeking-last h = record {
-    is = λ s. sym (pairs-none s (drop j (recordsOf c b)) left (omega (arith, length-drop j (recordsOf c b), records-length c b))) ∙ r .still s;
+    is = λ s. r .still s
+        ∙ ap (drop left) (pairs-none s (drop j (recordsOf c b)) (omega (arith, length-drop j (recordsOf c b), records-length c b)))
+        ∙ drop-of-length-le [] {i = left} (omega arith);
     ok = tt;
   }
 
@@ -105,25 +111,38 @@ module _ {c : ℕ} {b : List ℕ} {i at left j : ℕ} (r : Seeking c b i at left
         let o : getD b at 0 ≡ first .operate = ap (λ (k : ℕ). getD b k 0) (r .here) ∙ sym (operate-at c b j) in
         sym (e ∙ ap (λ (x : ℕ). eqb x LO || eqb x SO) o)
 
-    pub seeking-hit : true ≡ (eqb (getD b at 0) LO || eqb (getD b at 0) SO) → left ≡ 0 → FoundAs c b i (At j)
+    -- the pairs of what is left, where it does
+    opened : true ≡ (eqb (getD b at 0) LO || eqb (getD b at 0) SO) → (s : Sheet) → pairsOf s (drop j (recordsOf c b)) ≡ pairOf s first second ∷ pairsOf s (drop (j + 1) (recordsOf c b))
+    opened e s =
+        ap (pairsOf s) both ∙ pairs-first s first second (drop (j + 1 + 1) (recordsOf c b)) (opening e)
+        ∙ ap (λ rs. pairOf s first second ∷ pairsOf s rs) (sym rest)
+
+    pub seeking-hit : true ≡ (eqb (getD b at 0) LO || eqb (getD b at 0) SO) → left ≡ 0 → FoundAs c b from i (At j)
     seeking-hit e z = record {
-      is = λ s. sym (pairs-first s first second (drop (j + 1 + 1) (recordsOf c b)) (opening e)) ∙ ap (λ rs. getElem? (pairsOf s rs) 0) (sym both) ∙ ap (λ (k : ℕ). getElem? (pairsOf s (drop j (recordsOf c b))) k) (sym z) ∙ r .still s;
-      ok = more;
+      is = λ s. r .still s ∙ ap (λ (k : ℕ). drop k (pairsOf s (drop j (recordsOf c b)))) z ∙ opened e s;
+      ok = (r .begun, more);
     }
 
     -- one record further
-    next : {k : ℕ} → ((s : Sheet) → getElem? (pairsOf s (first ∷ second ∷ drop (j + 1 + 1) (recordsOf c b))) left ≡ getElem? (pairsOf s (second ∷ drop (j + 1 + 1) (recordsOf c b))) k)
-        → Seeking c b i (at + 32) k (j + 1)
-    next {k} e = record {
-      le = omega arith;
-      here = omega (arith, r .here);
-      still = λ s. ap (λ rs. getElem? (pairsOf s rs) k) rest ∙ sym (e s) ∙ ap (λ rs. getElem? (pairsOf s rs) left) (sym both) ∙ r .still s;
-    }
+    next : {k : ℕ} → ((s : Sheet) → drop left (pairsOf s (drop j (recordsOf c b))) ≡ drop k (pairsOf s (drop (j + 1) (recordsOf c b)))) → Seeking c b from i (at + 32) k (j + 1)
+    next {k} e = record { begun = omega (arith, r .begun); le = omega arith; here = omega (arith, r .here); still = λ s. r .still s ∙ e s }
 
-    pub seeking-opened : true ≡ (eqb (getD b at 0) LO || eqb (getD b at 0) SO) → (left ≡ 0 → ⊥) → Seeking c b i (at + 32) (left - 1) (j + 1)
+    pub seeking-opened : true ≡ (eqb (getD b at 0) LO || eqb (getD b at 0) SO) → (left ≡ 0 → ⊥) → Seeking c b from i (at + 32) (left - 1) (j + 1)
     seeking-opened e z =
         let n : left ≡ suc (left - 1) = omega (arith, z) in
-        next (λ s. ap (λ (k : ℕ). getElem? (pairsOf s (first ∷ second ∷ drop (j + 1 + 1) (recordsOf c b))) k) n ∙ pairs-later s first second (drop (j + 1 + 1) (recordsOf c b)) (left - 1) (opening e))
+        next (λ s. ap (λ (k : ℕ). drop k (pairsOf s (drop j (recordsOf c b)))) n ∙ ap (drop (suc (left - 1))) (opened e s))
 
-    pub seeking-passed : false ≡ (eqb (getD b at 0) LO || eqb (getD b at 0) SO) → Seeking c b i (at + 32) left (j + 1)
-    seeking-passed e = next (λ s. pairs-past s first second (drop (j + 1 + 1) (recordsOf c b)) left (opening e))
+    pub seeking-passed : false ≡ (eqb (getD b at 0) LO || eqb (getD b at 0) SO) → Seeking c b from i (at + 32) left (j + 1)
+    seeking-passed e =
+        next (λ s. ap (λ rs. drop left (pairsOf s rs)) both
+        ∙ ap (drop left) (pairs-past s first second (drop (j + 1 + 1) (recordsOf c b)) (opening e))
+        ∙ ap (λ rs. drop left (pairsOf s rs)) (sym rest))
+
+-- ---- the pair with an index
+
+module _ {c : ℕ} {b : List ℕ} {i : ℕ} (s : Sheet) where
+  pub found-none : FoundAs c b 0 i Nowhere → getElem? (pairsOf s (recordsOf c b)) i ≡ none
+  found-none f = none-left (pairsOf s (recordsOf c b)) i (f .is s)
+
+  pub found-some : {j : ℕ} → FoundAs c b 0 i (At j) → getElem? (pairsOf s (recordsOf c b)) i ≡ some (pairFrom s c b j)
+  found-some f = next-at (pairsOf s (recordsOf c b)) i (f .is s)

@@ -3,4 +3,5 @@ pub mod Find
 pub mod Values
 pub mod Texts
 pub mod Records
+pub mod Numbers
 pub mod Answers

@@ -3,15 +3,16 @@ use Prim.Native.Nat.{ℕ, _+_, _-_, _≤_}
 use native.Mathlib.Omega.{arith}
 use mathlib.Core.Path.{_≡_, _∙_}
 use mathlib.Core.List.{List, _++_}
-use lib.ListN.{length}
+use lib.ListN.{length, drop, length-append}
 use lib.Seq.{slice}
+use Rattle.le.specs.Le.{patch}
 use Rattle.text.specs.Literal.{bytes}
 use Rattle.text.specs.Read.{Put}
 use Rattle.text.proofs.Put.{put-put, put-whole}
 use Rattle.sheet.specs.Sheet.{Sheet, nameLimit}
-use Rattle.position.specs.Rows.{sequenceOf, pairOf}
+use Rattle.position.specs.Rows.{Pair, sequenceOf, pairOf}
 use Rattle.position.specs.declared.Record.{Record}
-use Rattle.rows.specs.Calls.{rowBuffer}
+use Rattle.rows.specs.Calls.{rowBuffer, pairText}
 use Rattle.pairs.specs.Read.{pairRow}
 use Rattle.pairs.specs.Row.{rowOf, PairPut}
 use Rattle.pairs.specs.declared.PairRow.{PairRow}
@@ -44,3 +45,19 @@ module _ (s : Sheet) (a z : Record) where
         is = e ∙ row-of n (m - n) (end - m) (omega (arith, px .end)) (omega (arith, qy .end)) (omega (arith, t .end));
         bytes = put-put (put-put px qy) t .written;
       }
+
+-- ---- the buffer behind it
+
+pub start : (l t : List ℕ) → patch l 0 t ≡ t ++ drop (length t) l
+unfolding patch
+start l t =
+    let e : 0 + length t ≡ length t = omega arith in
+    rw e
+
+-- where its length is kept, it has room for the texts
+pub pair-room : (p : Pair) (before : List ℕ) → length (patch before 0 (pairText p)) ≡ length before
+    → length (p .symbol) + length (p .mark) + length (p .sequence) ≤ length before
+pair-room p before e = omega (arith, e, size)
+  where
+    size : length (patch before 0 (pairText p)) ≡ length (p .symbol) + length (p .mark) + length (p .sequence) + length (drop (length (pairText p)) before)
+    size = rw (start, length-append, length-append, length-append)

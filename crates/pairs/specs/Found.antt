@@ -2,9 +2,8 @@
 use Prim.Native.Nat.{ℕ, _+_, _<_, _≤_}
 use mathlib.Core.Path.{_≡_}
 use mathlib.Core.Bool.{true}
-use mathlib.Core.List.{List}
-use mathlib.Core.Option.{Option, none, some}
-use lib.ListN.{length, getElem?}
+use mathlib.Core.List.{List, [], _∷_}
+use lib.ListN.{length, drop}
 use Rattle.le.specs.Le.{part}
 use Rattle.le.specs.Field.{u32}
 use Rattle.text.specs.Conditions.{every}
@@ -27,19 +26,24 @@ pub record Traded (n c : ℕ) (b : List ℕ) : Type 0 where
 abbrev pub recordAt : ℕ → List ℕ → ℕ → Record
 recordAt c b j = recordOf (part b (recordPlace c j) 32)
 
--- the pair of the record that was found and the next one
-abbrev pub foundOf : Sheet → ℕ → List ℕ → FoundPair → Option Pair
-foundOf s c b (At j) = some (pairOf s (recordAt c b j) (recordAt c b (j + 1)))
-foundOf s c b Nowhere = none
+-- the pair that starts with record number j
+abbrev pub pairFrom : Sheet → ℕ → List ℕ → ℕ → Pair
+pairFrom s c b j = pairOf s (recordAt c b j) (recordAt c b (j + 1))
 
-abbrev pub Followed : ℕ → FoundPair → Type 0
-Followed n (At j) = j + 1 < n
-Followed n Nowhere = Unit {0}
+-- the pair of the record that was found, and all that follow it
+abbrev pub foundOf : Sheet → ℕ → List ℕ → FoundPair → List Pair
+foundOf s c b (At j) = pairFrom s c b j ∷ pairsOf s (drop (j + 1) (recordsOf c b))
+foundOf s c b Nowhere = []
 
--- r is where pair number i starts, for every sheet
-pub record FoundAs (c : ℕ) (b : List ℕ) (i : ℕ) (r : FoundPair) : Type 0 where
-  pub is : (s : Sheet) → foundOf s c b r ≡ getElem? (pairsOf s (recordsOf c b)) i
-  pub ok : Followed (u32 b 4) r
+-- a record from number `from` on that has one behind it, of n
+abbrev pub Followed : ℕ → ℕ → FoundPair → Type 0
+Followed from n (At j) = (from ≤ j) × (j + 1 < n)
+Followed from n Nowhere = Unit {0}
+
+-- r is where pair number i of the records from number `from` on starts, for every sheet
+pub record FoundAs (c : ℕ) (b : List ℕ) (from i : ℕ) (r : FoundPair) : Type 0 where
+  pub is : (s : Sheet) → drop i (pairsOf s (drop from (recordsOf c b))) ≡ foundOf s c b r
+  pub ok : Followed from (u32 b 4) r
 
 -- what a row asks of a record, with n events in the table
 pub record Shown (n : ℕ) (r : Record) : Type 0 where

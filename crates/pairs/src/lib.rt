@@ -23,7 +23,7 @@ use titles::name_text;
 use titles::symbol_text;
 ghost use mathlib.Core.Path.{_≡_};
 ghost use mathlib.Core.Bool.{true, cond};
-ghost use Prim.Native.Nat.{_≤_};
+ghost use Prim.Native.Nat.{_+_, _<_, _≤_};
 ghost use lib.Dec.{eqb};
 ghost use lib.ListN.{length};
 ghost use Rattle.le.specs.Field.{u32};
@@ -39,7 +39,7 @@ ghost use Rattle.position.specs.Rows.{pairOf, pairsOf};
 ghost use Rattle.book.specs.Layout.{recordPlace, recordsOf};
 ghost use Rattle.rows.specs.Calls.{rowBuffer, rowAt};
 ghost use Rattle.pairs.specs.Read.{pairReadOf, PairAs};
-ghost use Rattle.pairs.specs.Found.{Traded, FoundAs, Shown};
+ghost use Rattle.pairs.specs.Found.{Traded, pairFrom, FoundAs, Shown};
 ghost use Rattle.pairs.specs.Row.{rowOf, PairPut, Answered};
 
 // The least length of a row buffer.
@@ -89,7 +89,7 @@ impl PairRead {
 }
 
 // The number of the record with which a pair starts, or none.
-enum FoundPair {
+pub enum FoundPair {
     At(usize),
     Nowhere,
 }
@@ -104,15 +104,16 @@ fn side_of(operate: u8) -> Side
     Side::Short
 }
 
-// Where pair number i starts: a record that opens, with one behind it. Only the operates are read.
-fn find_pair(b: &[u8], c: u32, i: usize) -> FoundPair
+// Where pair number i of the records from number `from` on starts: a record that opens, with one behind it. Only the operates are read.
+pub fn find_pair(b: &[u8], c: u32, from: usize, i: usize) -> FoundPair
     requires { ⌜ recordPlace c (u32 (now b) 4) ≤ length (now b) ⌝ }
-    ensures { λ r. ⌜ FoundAs c (now (b .entry)) i r ⌝ }
+    requires { ⌜ from ≤ u32 (now b) 4 ⌝ }
+    ensures { λ r. ⌜ FoundAs c (now (b .entry)) from i r ⌝ }
 {
     let n = get_u32(b, 4) as usize;
-    let mut at = HEAD_LENGTH + ENTRY_LENGTH * (c as usize) + OPERATE;
+    let mut at = HEAD_LENGTH + ENTRY_LENGTH * (c as usize) + ENTRY_LENGTH * from + OPERATE;
     let mut left = i;
-    let mut j: usize = 0;
+    let mut j = from;
     while j + 1 < n {
         if is_opening(b[at]) {
             if left == 0 {
@@ -177,6 +178,21 @@ fn put_pair(buffer: &mut [u8], t: &[u8], a: Record, z: Record) -> PairRow
     row_of(a, z, n, m - n, end - m)
 }
 
+// The row of the pair that starts with record number j of a book that passed the full check; its texts go to the start of the buffer.
+pub fn pair_at(t: &[u8], b: &[u8], c: u32, j: usize, buffer: &mut [u8]) -> PairRow
+    requires { ⌜ isTable (now t) ≡ true ⌝ }
+    requires { ⌜ Traded (countsIn (now t) .events) c (now b) ⌝ }
+    requires { ⌜ j + 1 < u32 (now b) 4 ⌝ }
+    requires { ⌜ rowBuffer ≤ length (now buffer) ⌝ }
+    ensures { λ r. ⌜ PairPut (pairFrom (sheetOf (partsIn (now (t .entry)))) c (now (b .entry)) j) (now (buffer .entry)) (now (buffer .exit)) r ⌝ }
+{
+    let at = HEAD_LENGTH + ENTRY_LENGTH * (c as usize) + ENTRY_LENGTH * j;
+    let next = at + ENTRY_LENGTH;
+    let a = record_at(&b[at..next]);
+    let z = record_at(&b[next..next + ENTRY_LENGTH]);
+    put_pair(buffer, t, a, z)
+}
+
 // Pair row number i of a book that passed the full check.
 fn row_at(t: &[u8], b: &[u8], c: u32, i: i64, buffer: &mut [u8]) -> PairRead
     requires { ⌜ isTable (now t) ≡ true ⌝ }
@@ -187,14 +203,10 @@ fn row_at(t: &[u8], b: &[u8], c: u32, i: i64, buffer: &mut [u8]) -> PairRead
     if i < 0 {
         return PairRead::PastLast;
     }
-    let FoundPair::At(j) = find_pair(b, c, i as usize) else {
+    let FoundPair::At(j) = find_pair(b, c, 0, i as usize) else {
         return PairRead::PastLast;
     };
-    let at = HEAD_LENGTH + ENTRY_LENGTH * (c as usize) + ENTRY_LENGTH * j;
-    let next = at + ENTRY_LENGTH;
-    let a = record_at(&b[at..next]);
-    let z = record_at(&b[next..next + ENTRY_LENGTH]);
-    PairRead::Row(put_pair(buffer, t, a, z))
+    PairRead::Row(pair_at(t, b, c, j, buffer))
 }
 
 // Pair row number i of a book; its symbol, mark and sequence go to the start of the buffer.

@@ -1,6 +1,5 @@
 -- The texts of a pair in the row buffer: they are found there again. Assumes nothing.
-use Prim.Native.Nat.{ℕ, _+_, _≤_}
-use native.Mathlib.Omega.{arith}
+use Prim.Native.Nat.{ℕ, _+_}
 use mathlib.Core.Path.{_≡_, refl}
 use mathlib.Core.List.{List, [], _++_, append-assoc}
 use lib.ListN.{length, drop, length-append}
@@ -9,18 +8,13 @@ use Rattle.le.specs.Le.{part, patch}
 use Rattle.position.specs.Rows.{Pair}
 use Rattle.rows.specs.Calls.{pairText}
 use Rattle.pairs.specs.Read.{pairRow}
+use Rattle.pairs.proofs.Texts.{start}
 use Rattle.run_output.specs.Shown.{pairIn}
 
 -- a text behind n bytes
 behind : (x y z : List ℕ) (n : ℕ) → length x ≡ n → part (x ++ (y ++ z)) n (length y) ≡ y
 unfolding part
 behind x y z n e = rw (drop-at x (y ++ z) n e, take-append-seam)
-
-start : (l t : List ℕ) → patch l 0 t ≡ t ++ drop (length t) l
-unfolding patch
-start l t =
-    let e : 0 + length t ≡ length t = omega arith in
-    rw e
 
 pub pair-back : (p : Pair) (before : List ℕ) → pairIn (pairRow p) (patch before 0 (pairText p)) ≡ p
 pair-back p before = rw (first, second, third)
@@ -45,11 +39,3 @@ pair-back p before = rw (first, second, third)
 
     third : part (patch before 0 (pairText p)) (length (p .symbol) + length (p .mark)) (length (p .sequence)) ≡ p .sequence
     third = rw (start, append-assoc (x ++ y) z rest) (behind (x ++ y) z rest (length x + length y) (length-append x y))
-
--- where the buffer's length is kept, it has room for them
-pub pair-room : (p : Pair) (before : List ℕ) → length (patch before 0 (pairText p)) ≡ length before
-    → length (p .symbol) + length (p .mark) + length (p .sequence) ≤ length before
-pair-room p before e = omega (arith, e, size)
-  where
-    size : length (patch before 0 (pairText p)) ≡ length (p .symbol) + length (p .mark) + length (p .sequence) + length (drop (length (pairText p)) before)
-    size = rw (start, length-append, length-append, length-append)

@@ -11,18 +11,15 @@ use mathlib.Mathlib.Data.List.Basic.{forall-cons}
 use lib.Dec.{T}
 use lib.IntN.{ℤ}
 use lib.Ieee.{isNan}
-use lib.Ieee.Scale.{finite}
 use lib.ListN.{length, getElem?, length-map}
 use Rattle.text.specs.Answer.{given}
 use Rattle.double.specs.Double.{yieldOk}
 use Rattle.double.specs.declared.Yield.{Yield}
 use Rattle.double.specs.declared.Yield.the-variants.{Absent, Bp}
-use Rattle.double.proofs.Numbers.{pair-number, days-number}
-use Rattle.bar.specs.Time.{secondsBetween}
 use Rattle.sheet.specs.Sheet.{Sheet}
 use Rattle.table.proofs.Facts.{read-is}
 use Rattle.position.specs.State.{State}
-use Rattle.position.specs.Rows.{Pair, opens, sideOf, pairOf, pairsOf, holdRow, holdRows}
+use Rattle.position.specs.Rows.{Pair, opens, pairOf, pairsOf, holdRow, holdRows}
 use Rattle.position.specs.Run.{runBars}
 use Rattle.position.specs.declared.Record.{Record}
 use Rattle.position.specs.declared.Hold.{Hold}
@@ -32,6 +29,7 @@ use Rattle.book.specs.Layout.{recordsOf, holdsOf}
 use Rattle.book.proofs.Ready.{holds-kept, records-kept}
 use Rattle.field.proofs.Laws.{not-nan}
 use Rattle.rows.specs.Calls.{rowBuffer, rowAt, pairDo, holdDo}
+use Rattle.pairs.proofs.Numbers.{PairNumbers, pair-numbers}
 use Rattle.history.proofs.Kept.{pair-is, hold-is}
 use Rattle.run_rows.specs.Rows.{Booked, pairRows}
 
@@ -47,25 +45,6 @@ pairs-few s (a ∷ b ∷ rs) = go (opens a) (pairs-few s (b ∷ rs))
     go true h = omega arith
     go false h = omega arith
 
--- the doubles of a pair are numbers
-pub record PairNumbers (p : Pair) : Type 0 where
-  pub from : T (not (isNan (p .openPrice)))
-  pub to : T (not (isNan (p .closePrice)))
-  pub days : T (not (isNan (p .days)))
-  pub bp : T (yieldOk (p .yield))
-
-pair-numbers : (s : Sheet) (a b : Record) → RecordOk s a → RecordOk s b → PairNumbers (pairOf s a b)
-unfolding pairOf
-pair-numbers s a b p q =
-    let u : T (finite (a .bar .price)) = rw (p .bar .price) tt in
-    let v : T (finite (b .bar .price)) = rw (q .bar .price) tt in
-    record {
-      from = not-nan (a .bar .price) (p .bar .price);
-      to = not-nan (b .bar .price) (q .bar .price);
-      days = days-number (secondsBetween (a .bar .time .instant .0) (b .bar .time .instant .0));
-      bp = pair-number (sideOf a) (a .bar .price) (b .bar .price) u v;
-    }
-
 pairs-numbers : (s : Sheet) (rs : List Record) → Forall (RecordOk s) rs → Forall PairNumbers (pairsOf s rs)
 unfolding pairsOf Forall
 pairs-numbers s [] h = tt
@@ -73,7 +52,7 @@ pairs-numbers s (a ∷ []) h = tt
 pairs-numbers s (a ∷ b ∷ rs) h =
     let one = forall-cons (RecordOk s) a (b ∷ rs) .0 h in
     let two = forall-cons (RecordOk s) b rs .0 (one .1) in
-    go (opens a) (pair-numbers s a b (one .0) (two .0)) (pairs-numbers s (b ∷ rs) (one .1))
+    go (opens a) (pair-numbers s a b (one .0 .bar .price) (two .0 .bar .price)) (pairs-numbers s (b ∷ rs) (one .1))
   where
     go : (t : Bool) → PairNumbers (pairOf s a b) → Forall PairNumbers (pairsOf s (b ∷ rs))
         → Forall PairNumbers (cond t (pairOf s a b ∷ pairsOf s (b ∷ rs)) (pairsOf s (b ∷ rs)))

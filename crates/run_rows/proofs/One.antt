@@ -25,11 +25,12 @@ use Rattle.pairs.specs.Read.{pairRow, pairReadOf, PairAs}
 use Rattle.pairs.specs.declared.PairRow.{PairRow}
 use Rattle.pairs.specs.declared.PairRead.{PairRead}
 use Rattle.pairs.specs.declared.PairRead.the-variants as PairRead
+use Rattle.pairs.proofs.Texts.{pair-room}
 use Rattle.holds.specs.Read.{holdReadOf}
 use Rattle.holds.specs.declared.HoldRead.{HoldRead}
 use Rattle.holds.specs.declared.HoldRead.the-variants as HoldRead
 use Rattle.run_output.specs.Shown.{pairRoom, holdRoom, pairIn, ShortPut, YieldShown, PairShown, HoldShown}
-use Rattle.run_output.proofs.Texts.{pair-back, pair-room}
+use Rattle.run_output.proofs.Texts.{pair-back}
 use Rattle.run_rows.specs.Rows.{Booked, pairRows}
 use Rattle.run_rows.proofs.Asked.{pair-asked, hold-asked, pair-shown, hold-shown}
 use Rattle.run_rows.proofs.Lent.{lent-put}

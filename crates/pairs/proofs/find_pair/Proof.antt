@@ -10,17 +10,17 @@ use Rattle.pairs.proofs.find_pair.Statement.{statement}
 use Rattle.pairs.proofs.find_pair.Tie as tie
 
 abbrev Inv-loop : tie.InvT-loop
-Inv-loop b c i n at₀ left₀ j₀ at left j = Seeking c b i at left j
+Inv-loop b c from i n at₀ left₀ j₀ at left j = Seeking c b from i at left j
 
 abbrev μ-loop : tie.MeasureT-loop
-μ-loop b c i n at₀ left₀ j₀ at left j = n - j
+μ-loop b c from i n at₀ left₀ j₀ at left j = n - j
 
 -- a record stands behind this one
 more : (c : tie.In-loop Inv-loop μ-loop) → c .before .loop .j + 1 < u32 (c .before .before .before .before .args .b .now) 4
 more c = omega (arith, c .loop-test .taken, c .before .before .get-u32 .ensures)
 
 loop-holds : tie.Need-loop-holds Inv-loop μ-loop
-loop-holds c = seeking-first _ _ _
+loop-holds c = seeking-first _ _ _ _ (c .before .before .pre .1)
 
 returns : tie.Need-returns Inv-loop μ-loop
 returns c =
@@ -46,6 +46,8 @@ find-pair-spec =
     Inv-loop
     μ-loop
     (λ c κs. search needs)
+    (λ c. search needs)
+    (λ c. search needs)
     (λ c. search needs)
     (λ c. search needs)
     (λ c. search needs)

@@ -1,0 +1,3 @@
+-- The definitions of block rows.
+pub mod Blocks
+pub mod Read

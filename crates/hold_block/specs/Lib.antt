@@ -1,0 +1,2 @@
+-- The definitions that the contracts of `hold_block` cite.
+pub mod Row
