@@ -95,13 +95,15 @@ fn bar(rng: &mut Rng, instant: i64) -> Bar {
     }
 }
 
+/// A hold, its yield absent or any, now and then a NaN.
 fn hold(rng: &mut Rng, instant: i64) -> Hold {
     let bp = f64::from_bits(double(rng));
+    let present = rng.once_in(2) && (!bp.is_nan() || rng.once_in(8));
     Hold {
         time: time(rng, instant),
         pos: pos(rng),
         price: price(rng),
-        bp: Some(bp).filter(|bp| !bp.is_nan() && rng.once_in(2)),
+        bp: present.then_some(bp),
     }
 }
 
