@@ -30,14 +30,16 @@ use words::compare;
 use words::few_parts;
 use words::is_clean;
 use words::is_cut;
+use words::is_tame;
 ghost use mathlib.Core.Path.{_≡_};
-ghost use mathlib.Core.Bool.{true};
+ghost use mathlib.Core.Bool.{true, false};
 ghost use mathlib.Core.List.{[], _∷_};
 ghost use Prim.Native.Nat.{_+_, _*_, _≤_, _<_};
 ghost use lib.ListN.{length, drop};
 ghost use lib.Dec.{eqb};
 ghost use Rattle.text.specs.Conditions.{allOf};
 ghost use Rattle.words.specs.Words.{clean, less, ascending};
+ghost use Rattle.words.specs.Read.{paired};
 ghost use Rattle.table.specs.Layout.{eventLength, clauseLength, wordLength, wordText, partsIn};
 ghost use Rattle.table.specs.Table.{settingsOk, countsOk, placesOk, headOk, eventOk, eventsOk, codeOk, clauseOk, clausesOk, wordsOk, isTable};
 ghost use Rattle.table.specs.Read.{Headed};
@@ -342,9 +344,10 @@ fn clauses_ok(rows: &[u8], n: usize, keys: usize, values: usize) -> bool
     b == values
 }
 
-// Whether a word of at most limit parts has its text at f, from where on the texts are clean.
-fn word_fits(texts: &[u8], w: WordRow, f: usize, limit: usize) -> bool
+// Whether a word of at most limit parts has its text at f, from where on the texts are clean; and they may be known to be tame.
+fn word_fits(texts: &[u8], w: WordRow, f: usize, limit: usize, tame: bool) -> bool
     requires { ⌜ clean (drop f (now texts)) ≡ true ⌝ }
+    requires { ⌜ (tame ≡ true → paired (now texts) ≡ false) ⌝ }
     ensures { λ r. ⌜ r ≡ allOf (wordAsked limit (now (texts .entry)) w f) ⌝ }
 {
     let at = w.at as usize;
@@ -358,7 +361,7 @@ fn word_fits(texts: &[u8], w: WordRow, f: usize, limit: usize) -> bool
     if !is_cut(texts, end) {
         return false;
     }
-    few_parts(&texts[at..end], limit)
+    few_parts(&texts[at..end], limit, tame)
 }
 
 // Whether n words of at most limit parts follow each other in the texts, which are clean as a whole.
@@ -367,11 +370,12 @@ fn words_laid(rows: &[u8], texts: &[u8], n: usize, limit: usize) -> bool
     requires { ⌜ clean (now texts) ≡ true ⌝ }
     ensures { λ r. ⌜ r ≡ laid limit (now (texts .entry)) 0 (wordRows n (now (rows .entry))) ⌝ }
 {
+    let tame = is_tame(texts);
     let mut f: usize = 0;
     let mut i: usize = 0;
     while i < n {
         let w = word_at(rows, i);
-        if !word_fits(texts, w, f, limit) {
+        if !word_fits(texts, w, f, limit, tame) {
             return false;
         }
         f = w.at as usize + w.len as usize;

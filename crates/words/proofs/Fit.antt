@@ -1,4 +1,4 @@
--- Few parts, none of them the wildcard: one part after another, and the invariant of `few_parts`. Assumes nothing.
+-- Few parts, none of them the wildcard: one part after another, and the invariant of `parts_fit`. Assumes nothing.
 use mathlib.Core.Path.{_≡_, _∙_, refl, sym}
 use mathlib.Core.Logic.{_≢_}
 use mathlib.Core.Bool.{Bool, true, false, not, cond}

@@ -2,6 +2,8 @@
 pub mod Meeting
 pub mod Cut
 pub mod Fit
+pub mod Tame
+pub mod Count
 pub mod Total
 pub mod Level
 pub mod Apart

@@ -1,11 +1,11 @@
 -- What the code's answers mean. Assumes nothing.
-use Prim.Native.Nat.{ℕ, _≤_}
+use Prim.Native.Nat.{ℕ, _+_, _≤_, _<_}
 use mathlib.Core.Path.{_≡_}
-use mathlib.Core.Bool.{Bool, true, not, cond}
+use mathlib.Core.Bool.{Bool, true, false, not, cond, _&&_, _||_}
 use mathlib.Core.List.{List, [], _∷_}
-use lib.Dec.{leb}
+use lib.Dec.{leb, eqb}
 use lib.ListN.{length, drop}
-use Rattle.text.specs.Text.{same, has, LF, pipe}
+use Rattle.text.specs.Text.{same, has, LF, pipe, underscore}
 use Rattle.text.specs.Conditions.{allOf, every}
 use Rattle.utf8.specs.Utf8.{inside, tail}
 use Rattle.words.specs.Words.{isWild, less}
@@ -23,6 +23,25 @@ fit n ps = allOf (leb (length ps) n ∷ every (λ p. not (isWild p)) ps ∷ [])
 abbrev pub isCut : List ℕ → Bool
 isCut [] = true
 isCut (b ∷ l) = not (inside tail b)
+
+-- the wildcard's second and third byte, and whether they stand side by side in a text
+abbrev pub isPair : ℕ → ℕ → Bool
+isPair a b = eqb a 0xbb && eqb b 0xbb
+
+unfoldable pub paired : List ℕ → Bool
+paired [] = false
+paired (a ∷ []) = false
+paired (a ∷ b ∷ l) = isPair a b || paired (b ∷ l)
+
+-- how often x stands in a text
+unfoldable pub count : ℕ → List ℕ → ℕ
+count x [] = 0
+count x (y ∷ l) = cond (eqb y x) 1 0 + count x l
+
+-- r underscores stand before i; or, where they are not fewer than limit, the text has so many
+pub record Counted (s : List ℕ) (i limit r : ℕ) : Type 0 where
+  pub few : r < limit → count underscore s ≡ r + count underscore (drop i s)
+  pub many : limit ≤ r → limit ≤ count underscore s
 
 -- how a stands to b
 unfoldable pub orderOf : List ℕ → List ℕ → Order

@@ -8,13 +8,16 @@ use Rattle.table_check.proofs.words_laid.Statement.{statement}
 use Rattle.table_check.proofs.words_laid.Tie as tie
 
 abbrev Inv-loop : tie.InvT-loop
-Inv-loop rows texts n limit f₀ i₀ f i = Laying rows texts n limit f i
+Inv-loop rows texts n limit tame f₀ i₀ f i = Laying rows texts n limit f i
 
 abbrev μ-loop : tie.MeasureT-loop
-μ-loop rows texts n limit f₀ i₀ f i = n - i
+μ-loop rows texts n limit tame f₀ i₀ f i = n - i
 
 loop-holds : tie.Need-loop-holds Inv-loop μ-loop
-loop-holds c = laying-first _ _ _ _ (c .before .before .pre .0) (c .before .before .pre .1)
+loop-holds c = laying-first _ _ _ _ (c .before .before .before .pre .0) (c .before .before .before .pre .1)
+
+word-fits-requires : tie.Need-word-fits-requires Inv-loop μ-loop
+word-fits-requires c κs = (c .before .before .loop .inv .rest, c .before .before .before .is-tame .ensures)
 
 returns : tie.Need-returns Inv-loop μ-loop
 returns c =
@@ -36,9 +39,10 @@ words-laid-spec =
     (tie.spec
     Inv-loop
     μ-loop
+    (λ c κs. search needs)
     loop-holds
     (λ c κs. search needs)
-    (λ c κs. search needs)
+    word-fits-requires
     returns
     (λ c. search needs)
     (λ c. search needs)
