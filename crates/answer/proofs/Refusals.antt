@@ -17,6 +17,13 @@ use Rattle.holds.specs.Read.{holdReadOf}
 use Rattle.holds.specs.declared.HoldRead.{HoldRead}
 use Rattle.holds.specs.declared.HoldRead.the-variants as Hold
 use Rattle.holds.proofs.HoldRead as hold
+use Rattle.blocks.specs.Read.{blockReadOf, countsReadOf}
+use Rattle.blocks.specs.declared.BlockRead.{BlockRead}
+use Rattle.blocks.specs.declared.BlockRead.the-variants as Block
+use Rattle.blocks.proofs.BlockRead as block
+use Rattle.blocks.specs.declared.CountsRead.{CountsRead}
+use Rattle.blocks.specs.declared.CountsRead.the-variants as Counted
+use Rattle.blocks.proofs.CountsRead as counted
 use Rattle.titles.specs.Read.{nameReadOf}
 use Rattle.titles.specs.declared.NameRead.{NameRead}
 use Rattle.titles.specs.declared.NameRead.the-variants as Name
@@ -54,3 +61,16 @@ name-refused (Name.Length n) h = absurd (miss (1 ∷ 2 ∷ 3 ∷ []) 0 tt h)
 name-refused Name.WrongLength h = refl
 name-refused Name.NotTable h = refl
 name-refused Name.PastLast h = refl
+
+pub block-refused : (r : BlockRead) → OneOf (1 ∷ 2 ∷ 3 ∷ 4 ∷ []) (tagOf block.the-type r) → Refused (number (blockReadOf r)) ≡ blockReadOf r
+block-refused (Block.Rows q) h = absurd (miss (1 ∷ 2 ∷ 3 ∷ 4 ∷ []) 0 tt h)
+block-refused Block.WrongLength h = refl
+block-refused Block.NotTable h = refl
+block-refused Block.NotBook h = refl
+block-refused Block.PastLast h = refl
+
+pub counts-refused : (r : CountsRead) → OneOf (1 ∷ 2 ∷ 3 ∷ []) (tagOf counted.the-type r) → Refused (number (countsReadOf r)) ≡ countsReadOf r
+counts-refused (Counted.Counts q) h = absurd (miss (1 ∷ 2 ∷ 3 ∷ []) 0 tt h)
+counts-refused Counted.WrongLength h = refl
+counts-refused Counted.NotTable h = refl
+counts-refused Counted.NotBook h = refl

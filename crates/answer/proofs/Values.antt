@@ -9,8 +9,9 @@ use Rattle.position.specs.State.{posSign}
 use Rattle.position.specs.declared.HoldRow.{HoldRow}
 use Rattle.position.specs.declared.Report.{Report}
 use Rattle.book.specs.Layout.{flag, yieldFlag}
+use Rattle.blocks.specs.Blocks.{sideSign}
 use Rattle.pairs.specs.declared.PairRow.{PairRow}
-use Rattle.answer.specs.Rows.{decisionCode, decisionEvent, feedAnswer, yieldValue, sideSign, pairAnswer, holdAnswer}
+use Rattle.answer.specs.Rows.{decisionCode, decisionEvent, feedAnswer, yieldValue, pairAnswer, holdAnswer}
 
 pub feed-values : (r : Report) {z : ℤ} {t d e : ℕ} → z ≡ posSign (r .pos) → t ≡ flag (r .changed) → d ≡ decisionCode (r .decision) → e ≡ decisionEvent (r .decision)
     → record { number = 0; pos = z; changed = t; decision = d; event = e } ≡ feedAnswer (Got (record { after = []; report = r }))

@@ -1,14 +1,12 @@
--- What a feed and the requests for rows and names answer to the host: their numbers and values. "Refused rows carry zeros and absent yields." A
--- refused feed or name has zeros too. Assumes nothing.
+-- What a feed and the requests for rows, blocks, counts and names answer to the host: their numbers and values. "Refused rows carry zeros and
+-- absent yields." A refused feed, block, count or name has zeros too. Assumes nothing.
 use Prim.Native.Nat.{ℕ}
 use mathlib.Core.List.{List}
-use lib.IntN.{ℤ, pos, negsuc}
+use lib.IntN.{pos}
 use lib.Ieee.{Float}
 use lib.ListN.{length}
 use Rattle.text.specs.Answer.{Answer, Refused, Got, _>>=_}
 use Rattle.double.specs.Double.{whole}
-use Rattle.double.specs.declared.Side.{Side}
-use Rattle.double.specs.declared.Side.the-variants.{Long, Short}
 use Rattle.double.specs.declared.Yield.{Yield}
 use Rattle.double.specs.declared.Yield.the-variants.{Absent, Bp}
 use Rattle.position.specs.State.{posSign}
@@ -17,11 +15,16 @@ use Rattle.position.specs.declared.HoldRow.{HoldRow}
 use Rattle.position.specs.declared.Decision.{Decision}
 use Rattle.position.specs.declared.Decision.the-variants.{Nothing, By}
 use Rattle.book.specs.Layout.{flag, yieldFlag, descriptionCode, descriptionEvent}
+use Rattle.blocks.specs.Blocks.{sideSign}
+use Rattle.blocks.specs.declared.Block.{Block}
+use Rattle.blocks.specs.declared.RowCounts.{RowCounts}
 use Rattle.pairs.specs.declared.PairRow.{PairRow}
 use Rattle.answer.specs.declared.NameAnswer.{NameAnswer}
 use Rattle.answer.specs.declared.FeedAnswer.{FeedAnswer}
 use Rattle.answer.specs.declared.PairAnswer.{PairAnswer}
 use Rattle.answer.specs.declared.HoldAnswer.{HoldAnswer}
+use Rattle.answer.specs.declared.BlockAnswer.{BlockAnswer}
+use Rattle.answer.specs.declared.CountsAnswer.{CountsAnswer}
 
 -- ---- a feed
 
@@ -46,11 +49,6 @@ feedAnswer (Got a) =
 abbrev pub yieldValue : Yield → Float
 yieldValue Absent = whole 0
 yieldValue (Bp x) = x
-
--- "L or S"
-abbrev pub sideSign : Side → ℤ
-sideSign Long = pos 1
-sideSign Short = negsuc 0
 
 abbrev pub pairAnswer : Answer PairRow → PairAnswer
 pairAnswer (Refused n) =
@@ -90,6 +88,16 @@ abbrev pub holdAnswer : Answer HoldRow → HoldAnswer
 holdAnswer (Refused n) = record { number = n; local = pos 0; pos = pos 0; price = whole 0; present = 0; bp = whole 0 }
 holdAnswer (Got r) =
     record { number = 0; local = r .local .0; pos = r .pos; price = r .price; present = yieldFlag (r .n1b); bp = yieldValue (r .n1b) }
+
+-- ---- blocks and counts
+
+abbrev pub blockAnswer : Answer Block → BlockAnswer
+blockAnswer (Refused n) = record { number = n; rows = 0; length = 0 }
+blockAnswer (Got q) = record { number = 0; rows = q .rows; length = q .length }
+
+abbrev pub countsAnswer : Answer RowCounts → CountsAnswer
+countsAnswer (Refused n) = record { number = n; holds = 0; pairs = 0 }
+countsAnswer (Got q) = record { number = 0; holds = q .holds; pairs = q .pairs }
 
 -- ---- names
 

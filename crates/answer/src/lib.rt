@@ -1,11 +1,14 @@
-// The answers of a feed, of row requests and of names as the structs that cross to the host: zeros where they are refused.
-use double::Side;
+// The answers of a feed, of requests for rows, blocks and counts, and of names as the structs that cross to the host: zeros where they are refused.
+use blocks::BlockRead;
+use blocks::CountsRead;
 use double::Yield;
 use entry::description_code;
 use entry::description_event;
 use feed::Feed;
 use field::pos_sign;
+use hold_block::present;
 use holds::HoldRead;
+use pair_block::side_sign;
 use pairs::PairRead;
 use pairs::PairRow;
 use position::Decision;
@@ -16,12 +19,13 @@ ghost use mathlib.Core.Path.{_≡_};
 ghost use mathlib.Core.List.{List, []};
 ghost use Prim.Native.Nat.{ℕ};
 ghost use Rattle.text.specs.Answer.{Refused, Got};
-ghost use Rattle.book.specs.Layout.{flag, yieldFlag};
+ghost use Rattle.book.specs.Layout.{flag};
+ghost use Rattle.blocks.specs.Read.{blockReadOf, countsReadOf};
 ghost use Rattle.feed.specs.Feed.{feedOf};
 ghost use Rattle.holds.specs.Read.{holdReadOf};
 ghost use Rattle.pairs.specs.Read.{pairReadOf};
 ghost use Rattle.titles.specs.Read.{nameReadOf};
-ghost use Rattle.answer.specs.Rows.{decisionCode, decisionEvent, feedAnswer, yieldValue, sideSign, pairAnswer, holdAnswer, lengthAnswer};
+ghost use Rattle.answer.specs.Rows.{decisionCode, decisionEvent, feedAnswer, yieldValue, pairAnswer, holdAnswer, blockAnswer, countsAnswer, lengthAnswer};
 
 // The length of a name.
 #[repr(C)]
@@ -69,6 +73,22 @@ pub struct HoldAnswer {
     pub price: f64,
     pub present: u32,
     pub bp: f64,
+}
+
+// A block of rows: how many they are, and the length of their bytes.
+#[repr(C)]
+pub struct BlockAnswer {
+    pub number: u32,
+    pub rows: usize,
+    pub length: usize,
+}
+
+// How many rows of each kind a book has.
+#[repr(C)]
+pub struct CountsAnswer {
+    pub number: u32,
+    pub holds: usize,
+    pub pairs: usize,
 }
 
 // 1 or 0.
@@ -136,16 +156,6 @@ pub fn feed_answer(r: Feed) -> FeedAnswer
     }
 }
 
-// Whether a yield is present.
-fn present(y: Yield) -> u32
-    ensures { λ r. ⌜ r ≡ yieldFlag y ⌝ }
-{
-    match y {
-        Yield::Absent => 0,
-        Yield::Bp(_) => 1,
-    }
-}
-
 // A yield's double, or 0 where it is absent.
 fn value(y: Yield) -> f64
     ensures { λ r. ⌜ r ≡ yieldValue y ⌝ }
@@ -153,16 +163,6 @@ fn value(y: Yield) -> f64
     match y {
         Yield::Absent => 0.0,
         Yield::Bp(x) => x,
-    }
-}
-
-// 1 for L, -1 for S.
-fn side_sign(s: Side) -> i32
-    ensures { λ r. ⌜ r ≡ sideSign s ⌝ }
-{
-    match s {
-        Side::Long => 1,
-        Side::Short => -1,
     }
 }
 
@@ -274,6 +274,42 @@ pub fn name_answer(r: NameRead) -> NameAnswer
         _ => NameAnswer {
             number: r.number(),
             length: 0,
+        },
+    }
+}
+
+// What a request for a block of rows answers.
+pub fn block_answer(r: BlockRead) -> BlockAnswer
+    ensures { λ q. ⌜ q ≡ blockAnswer (blockReadOf r) ⌝ }
+{
+    match r {
+        BlockRead::Rows(q) => BlockAnswer {
+            number: 0,
+            rows: q.rows,
+            length: q.length,
+        },
+        _ => BlockAnswer {
+            number: r.number(),
+            rows: 0,
+            length: 0,
+        },
+    }
+}
+
+// What a request for the counts answers.
+pub fn counts_answer(r: CountsRead) -> CountsAnswer
+    ensures { λ q. ⌜ q ≡ countsAnswer (countsReadOf r) ⌝ }
+{
+    match r {
+        CountsRead::Counts(q) => CountsAnswer {
+            number: 0,
+            holds: q.holds,
+            pairs: q.pairs,
+        },
+        _ => CountsAnswer {
+            number: r.number(),
+            holds: 0,
+            pairs: 0,
         },
     }
 }

@@ -18,13 +18,16 @@ use Rattle.feed.specs.Feed.{feedOf, FeedAs}
 use Rattle.feed.specs.declared.Feed.{Feed}
 use Rattle.pairs.specs.Read.{pairReadOf, PairAs}
 use Rattle.pairs.specs.declared.PairRead.{PairRead}
+use Rattle.blocks.specs.Read.{blockReadOf, BlockAs}
+use Rattle.blocks.specs.declared.BlockRead.{BlockRead}
 use Rattle.titles.specs.Read.{nameReadOf, NameAs}
 use Rattle.titles.specs.declared.NameRead.{NameRead}
-use Rattle.answer.specs.Rows.{feedAnswer, pairAnswer, lengthAnswer}
+use Rattle.answer.specs.Rows.{feedAnswer, pairAnswer, blockAnswer, lengthAnswer}
 use Rattle.answer.specs.declared.FeedAnswer.{FeedAnswer}
 use Rattle.answer.specs.declared.PairAnswer.{PairAnswer}
+use Rattle.answer.specs.declared.BlockAnswer.{BlockAnswer}
 use Rattle.answer.specs.declared.NameAnswer.{NameAnswer}
-use Rattle.position_book.specs.Results.{StoreIs, FeedIs, PairIs, EventNameIs}
+use Rattle.position_book.specs.Results.{StoreIs, FeedIs, PairIs, BlockIs, EventNameIs}
 
 -- the number does not depend on the bytes
 stored-number : (after : List ℕ) (q : Stored) → number (storedOf [] q) ≡ number (storedOf after q)
@@ -59,3 +62,9 @@ module _ {i : ℤ} (F : SFits w64 i) where
   name-is {t} {before} {after} {q} p e =
       let g = subst (λ (z : ℤ). NameAs t z before after q) (toZ-ofZ {w = w64} F) p in
       (e ∙ ap lengthAnswer (g .is), g .bytes)
+
+  pub block-is : (d : ℤ → Answer (List (List ℕ))) {before after : List ℕ} {q : BlockRead} {r : BlockAnswer} → BlockAs (d (back w64 i)) before after q → r ≡ blockAnswer (blockReadOf q)
+      → BlockIs (d i) before after r
+  block-is d {before} {after} {q} p e =
+      let g = subst (λ (z : ℤ). BlockAs (d z) before after q) (toZ-ofZ {w = w64} F) p in
+      (e ∙ ap blockAnswer (g .is), g .bytes)

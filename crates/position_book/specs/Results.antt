@@ -10,10 +10,12 @@ use Rattle.position.specs.Feed.{Accepted}
 use Rattle.position.specs.Rows.{Pair}
 use Rattle.book.specs.Calls.{feedBytes}
 use Rattle.rows.specs.Calls.{pairBytes, eventNameBytes}
+use Rattle.blocks.specs.Blocks.{blockOf, blockBytes}
 use Rattle.pairs.specs.Read.{pairRow}
-use Rattle.answer.specs.Rows.{feedAnswer, pairAnswer, nameAnswer}
+use Rattle.answer.specs.Rows.{feedAnswer, pairAnswer, blockAnswer, nameAnswer}
 use Rattle.answer.specs.declared.FeedAnswer.{FeedAnswer}
 use Rattle.answer.specs.declared.PairAnswer.{PairAnswer}
+use Rattle.answer.specs.declared.BlockAnswer.{BlockAnswer}
 use Rattle.answer.specs.declared.NameAnswer.{NameAnswer}
 
 -- the table means the sheet, or is as it was
@@ -29,6 +31,10 @@ FeedIs d before after r = (r ≡ feedAnswer d) × (after ≡ feedBytes before d)
 
 abbrev pub PairIs : Answer Pair → List ℕ → List ℕ → PairAnswer → Type 0
 PairIs d before after r = (r ≡ pairAnswer (d >>= λ p. Got (pairRow p))) × (after ≡ pairBytes before d)
+
+-- pair rows and hold rows in a block
+abbrev pub BlockIs : Answer (List (List ℕ)) → List ℕ → List ℕ → BlockAnswer → Type 0
+BlockIs d before after r = (r ≡ blockAnswer (d >>= λ rows. Got (blockOf rows))) × (after ≡ blockBytes before d)
 
 abbrev pub EventNameIs : Answer (List ℕ) → List ℕ → List ℕ → NameAnswer → Type 0
 EventNameIs d before after r = (r ≡ nameAnswer d) × (after ≡ eventNameBytes before d)

@@ -1,17 +1,24 @@
 // The exported calls. Each takes numbers and byte slices of any kind, and answers a number of document 01 with its values.
+use answer::BlockAnswer;
+use answer::CountsAnswer;
 use answer::FeedAnswer;
 use answer::HoldAnswer;
 use answer::NameAnswer;
 use answer::PairAnswer;
+use answer::block_answer;
+use answer::counts_answer;
 use answer::feed_answer;
 use answer::hold_answer;
 use answer::name_answer;
 use answer::pair_answer;
 use compile::compile;
 use feed::feed_bar;
+use hold_block::hold_rows;
 use holds::hold_row;
 use operate::OperateAlone;
+use pair_block::pair_rows;
 use pairs::pair_row;
+use row_counts::row_counts;
 use signal::SignalAlone;
 use signal::SignalAt;
 use store::fresh;
@@ -28,9 +35,10 @@ ghost use Rattle.signal.specs.Read.{SignalOk};
 ghost use Rattle.table.specs.Compile.{compileDo};
 ghost use Rattle.book.specs.Calls.{freshDo, feedDo, saveDo, restoreDo};
 ghost use Rattle.rows.specs.Calls.{pairDo, holdDo, eventNameDo};
-ghost use Rattle.answer.specs.Rows.{holdAnswer, nameAnswer};
+ghost use Rattle.blocks.specs.Blocks.{holdBlockDo, pairBlockDo, countsDo};
+ghost use Rattle.answer.specs.Rows.{holdAnswer, countsAnswer, nameAnswer};
 ghost use Rattle.position_book.specs.Calls.{signalDo, signalAnswer, signalBytes, operateAnswer, nameDo, nameBytes};
-ghost use Rattle.position_book.specs.Results.{CompileIs, StoreIs, FeedIs, PairIs, EventNameIs};
+ghost use Rattle.position_book.specs.Results.{CompileIs, StoreIs, FeedIs, PairIs, BlockIs, EventNameIs};
 ghost use Rattle.position_book.specs.Read.{SignalPut};
 
 // What a signal alone says: its score, and the lengths of its key and its three values.
@@ -225,6 +233,43 @@ pub extern "C" fn position_book_hold_row(table: &[u8], book: &[u8], index: i64) 
 {
     let r = hold_row(table, book, index);
     hold_answer(r)
+}
+
+// How many hold rows and pair rows the book has.
+#[no_mangle]
+pub extern "C" fn position_book_counts(table: &[u8], book: &[u8]) -> CountsAnswer
+    ensures { λ r. ⌜ r ≡ countsAnswer (countsDo (now (table .entry)) (now (book .entry))) ⌝ }
+{
+    let r = row_counts(table, book);
+    counts_answer(r)
+}
+
+// The pair rows of the book from number `first` on, one after another to the start of `rows`: as many as fit.
+#[no_mangle]
+pub extern "C" fn position_book_pair_rows(
+    table: &[u8],
+    book: &[u8],
+    first: i64,
+    rows: &mut [u8],
+) -> BlockAnswer
+    ensures { λ r. ⌜ BlockIs (pairBlockDo (now (table .entry)) (now (book .entry)) first (now (rows .entry))) (now (rows .entry)) (now (rows .exit)) r ⌝ }
+{
+    let r = pair_rows(table, book, first, rows);
+    block_answer(r)
+}
+
+// The hold rows of the book from number `first` on, one after another to the start of `rows`: as many as fit.
+#[no_mangle]
+pub extern "C" fn position_book_hold_rows(
+    table: &[u8],
+    book: &[u8],
+    first: i64,
+    rows: &mut [u8],
+) -> BlockAnswer
+    ensures { λ r. ⌜ BlockIs (holdBlockDo (now (table .entry)) (now (book .entry)) first (now (rows .entry))) (now (rows .entry)) (now (rows .exit)) r ⌝ }
+{
+    let r = hold_rows(table, book, first, rows);
+    block_answer(r)
 }
 
 // The name of an event of the table by its index, to the start of the buffer.

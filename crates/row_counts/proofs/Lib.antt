@@ -1,0 +1,3 @@
+-- The laws of the counts.
+pub mod Counting
+pub mod Asked
