@@ -1,5 +1,5 @@
 -- Laws of the steps that look at many bytes or lines at once: the invariants of `plain_block`, `field_end` and `has_print`. Assumes nothing.
-use mathlib.Core.Path.{_≡_, refl, sym}
+use mathlib.Core.Path.{_≡_, refl}
 use mathlib.Core.Logic.{_≢_}
 use mathlib.Core.List.{List}
 use Prim.Native.Nat.{ℕ, _+_, _%_, _≤_, _<_}

@@ -11,7 +11,7 @@ use lib.Dec.{eqb}
 use lib.ListN.{length, getD}
 use lib.Seq.{slice, length-slice}
 use Rattle.bytes.specs.Bytes.{indexOf, indexAfter}
-use Rattle.text.specs.Read.{Part, FirstAt}
+use Rattle.text.specs.Read.{FirstAt}
 use Rattle.text.proofs.Laws.{part-cons, part-nil}
 
 index-most : (b : ℕ) (l : List ℕ) → indexOf b l ≤ length l

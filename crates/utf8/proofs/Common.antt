@@ -19,6 +19,17 @@ passed-common {s} {j = j} r h f t u =
     let a = read-first s j _ (omega arith) (after-three _ (f .low) (f .other) (f .high)) in
     rw two (passed-char r (range-among (range-among a (omega arith) (t .low) (t .high)) (omega arith) (v .low) (v .high)))
 
+start-first : {b : ℕ} → Start b → 0xe0 < b → First b
+start-first (ascii l) h = absurd (omega arith)
+start-first (first f) h = f
+
+-- a common character that starts at i
+pub common-at : (s : List ℕ) (i : ℕ) {x y z : ℕ} → i + 2 < length s → 0xe0 < getD s i 0 → ZeroFor (Start (getD s i 0)) x → ZeroFor (Tail (getD s (i + 1) 0)) y → ZeroFor (Tail (getD s (i + 2) 0)) z
+    → x + y + z ≡ 0 → Passed s (i + 1) (utf8 (drop i s)) (i + 3)
+common-at s i h l a b c e =
+    let r = passed-common (passed-start s i (omega arith)) h (start-first (a .zero (omega arith)) l) (b .zero (omega arith)) (c .zero (omega arith)) in
+    record { onward = omega arith; within = r .within; same = r .same }
+
 -- ---- byte by byte
 
 -- how the bytes from i to k stand, of which the last two are q and p: they are whole characters, or behind these the first byte, or two, of a common one

@@ -173,11 +173,60 @@ fn skip_ascii(s: &[u8], i: usize) -> usize
     j
 }
 
+// 0 where b is a tail, else 1.
+fn not_tail(b: u8) -> u8
+    ensures { λ r. ⌜ ZeroFor (Tail b) r ⌝ }
+{
+    if b < 0x80 {
+        return 1;
+    }
+    if 0xbf < b {
+        return 1;
+    }
+    0
+}
+
+// 0 where b is ASCII or starts a common character, else 1.
+fn not_start(b: u8) -> u8
+    ensures { λ r. ⌜ ZeroFor (Start b) r ⌝ }
+{
+    if b <= 0x7f {
+        return 0;
+    }
+    if b <= 0xe0 {
+        return 1;
+    }
+    if b == 0xed {
+        return 1;
+    }
+    if 0xef < b {
+        return 1;
+    }
+    0
+}
+
+// Whether a common character starts at i.
+fn is_common(s: &[u8], i: usize) -> bool
+    requires { ⌜ i < length (now s) ⌝ }
+    ensures { λ r. ⌜ (r ≡ true → Passed (now (s .entry)) (i + 1) (utf8 (drop i (now (s .entry)))) (i + 3)) ⌝ }
+{
+    if s.len() - i < 3 {
+        return false;
+    }
+    if s[i] <= 0xe0 {
+        return false;
+    }
+    not_start(s[i]) + not_tail(s[i + 1]) + not_tail(s[i + 2]) == 0
+}
+
 // Takes the ASCII from i on, or the character of several bytes at i.
 fn next(s: &[u8], i: usize) -> Char
     requires { ⌜ i < length (now s) ⌝ }
     ensures { λ r. ⌜ CharAt (now (s .entry)) (i + 1) (utf8 (drop i (now (s .entry)))) r ⌝ }
 {
+    if is_common(s, i) {
+        return Char::Next(i + 3);
+    }
     if 0x7f < s[i] {
         return character(s, i);
     }
@@ -224,38 +273,6 @@ fn larger(p: u8, q: u8) -> u8
         return q;
     }
     p
-}
-
-// 0 where b is a tail, else 1.
-fn not_tail(b: u8) -> u8
-    ensures { λ r. ⌜ ZeroFor (Tail b) r ⌝ }
-{
-    if b < 0x80 {
-        return 1;
-    }
-    if 0xbf < b {
-        return 1;
-    }
-    0
-}
-
-// 0 where b is ASCII or starts a common character, else 1.
-fn not_start(b: u8) -> u8
-    ensures { λ r. ⌜ ZeroFor (Start b) r ⌝ }
-{
-    if b <= 0x7f {
-        return 0;
-    }
-    if b <= 0xe0 {
-        return 1;
-    }
-    if b == 0xed {
-        return 1;
-    }
-    if 0xef < b {
-        return 1;
-    }
-    0
 }
 
 // 0 where b can stand behind q and p in a text of ASCII and common characters, else 1.
