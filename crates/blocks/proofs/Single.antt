@@ -102,7 +102,7 @@ module _ {limit : ℕ} {rows : ℕ → Sheet → List (List ℕ)} {t b : List �
       go (pos n) f h = sym (at-drop all n k) ∙ h
       go (negsuc n) f h = absurd (let z : _≡_ {A = ℕ} 0 1 = cc in omega arith)
 
-  row-some : length (a .first) ≤ length out → 1 ≤ length block
+  pub row-some : length (a .first) ≤ length out → 1 ≤ length block
   row-some h = rw (a .is) (go i (a .there))
     where
       first-is : (xs : List (List ℕ)) → getElem? xs 0 ≡ some (a .first) → 1 ≤ length (fitting (length out) xs)
@@ -124,7 +124,7 @@ unfolding holdRowBytes leBytes
 hold-long o = rw (yield-length (o .n1b))
 
 -- the row behind a row's bytes
-row-of : {X : Type 0} (f : X → List ℕ) (xs : List X) (z : ℤ) (r : List ℕ) → rowAt (map f xs) z ≡ some r → (x : X) × (rowAt xs z ≡ some x) × (f x ≡ r)
+pub row-of : {X : Type 0} (f : X → List ℕ) (xs : List X) (z : ℤ) (r : List ℕ) → rowAt (map f xs) z ≡ some r → (x : X) × (rowAt xs z ≡ some x) × (f x ≡ r)
 row-of f xs (pos n) r e = at-map f xs n r e
 row-of f xs (negsuc n) r e = absurd (let z : _≡_ {A = ℕ} 0 1 = cc in omega arith)
 

@@ -3,3 +3,4 @@ pub mod Row
 pub mod Made
 pub mod Walking
 pub mod First
+pub mod Short

@@ -44,7 +44,7 @@ close-length operate = go (eqb operate SE)
 
 -- ---- the text
 
-closing-length : (operate v : ℕ) (unit : List ℕ) → v < 2 ^ 64 → length unit ≤ 8 → length (closeName operate ++ bytes "@" ++ decimalOf v ++ unit) ≤ 35
+pub closing-length : (operate v : ℕ) (unit : List ℕ) → v < 2 ^ 64 → length unit ≤ 8 → length (closeName operate ++ bytes "@" ++ decimalOf v ++ unit) ≤ 35
 unfolding bytes encoded
 closing-length operate v unit h k =
     rw (length-append, length-append, length-append) (omega (arith, close-length operate, length-decimal v h))
