@@ -61,6 +61,20 @@ typedef struct {
     double bp;
 } HoldAnswer;
 
+/* A block of rows: how many, and the length of their bytes. */
+typedef struct {
+    uint32_t number;
+    size_t rows;
+    size_t length;
+} BlockAnswer;
+
+/* How many rows a book has. */
+typedef struct {
+    uint32_t number;
+    size_t holds;
+    size_t pairs;
+} CountsAnswer;
+
 /* What a signal alone says: its score, and the lengths of its key and its three values. */
 typedef struct {
     uint32_t number;
@@ -97,6 +111,17 @@ PairAnswer position_book_pair_row(const uint8_t *table, size_t table_length, con
 
 /* A hold row of the book by its index. */
 HoldAnswer position_book_hold_row(const uint8_t *table, size_t table_length, const uint8_t *book, size_t book_length, int64_t index);
+
+/* The pair rows from number first on, one after another from the start of rows on: as many as fit. A row is 88 bytes and its texts, all
+   little-endian: i32 side, u32 yield present, i64 opened, i64 closed, double from, double to, i64 ids, double days, double bp, u64 lengths of
+   symbol, mark and sequence; then symbol, mark and sequence. The buffer must have room for a longest row, 2,136 bytes. */
+BlockAnswer position_book_pair_rows(const uint8_t *table, size_t table_length, const uint8_t *book, size_t book_length, int64_t first, uint8_t *rows, size_t rows_length);
+
+/* The hold rows from number first on, in the same way. A row is 32 bytes: i64 local, i32 pos, u32 yield present, double price, double bp. */
+BlockAnswer position_book_hold_rows(const uint8_t *table, size_t table_length, const uint8_t *book, size_t book_length, int64_t first, uint8_t *rows, size_t rows_length);
+
+/* How many hold rows and pair rows the book has. */
+CountsAnswer position_book_counts(const uint8_t *table, size_t table_length, const uint8_t *book, size_t book_length);
 
 /* The name of an event of the table by its index, to the start of the buffer. */
 NameAnswer position_book_event_name(const uint8_t *table, size_t table_length, int64_t index, uint8_t *buffer, size_t buffer_length);

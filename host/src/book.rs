@@ -166,6 +166,13 @@ impl Book {
         Holds::new(table.as_bytes(), &self.bytes)
     }
 
+    /// How many trade pairs there are.
+    pub fn count_pairs(&self, table: &Table) -> Result<usize, Refusal> {
+        let a = raw::counts(table.as_bytes(), &self.bytes);
+        done(a.number)?;
+        Ok(a.pairs)
+    }
+
     /// The position after the last bar.
     pub fn pos(&self) -> Pos {
         Pos::from_sign(i32::from(self.bytes[24]) - 1)

@@ -69,6 +69,24 @@ pub struct HoldAnswer {
     pub bp: f64,
 }
 
+/// A block of rows: how many, and the length of their bytes.
+#[repr(C)]
+#[derive(Clone, Copy, Debug, PartialEq)]
+pub struct BlockAnswer {
+    pub number: u32,
+    pub rows: usize,
+    pub length: usize,
+}
+
+/// How many rows a book has.
+#[repr(C)]
+#[derive(Clone, Copy, Debug, PartialEq)]
+pub struct CountsAnswer {
+    pub number: u32,
+    pub holds: usize,
+    pub pairs: usize,
+}
+
 /// What a signal alone says: its score, and the lengths of its key and its three values.
 #[repr(C)]
 #[derive(Clone, Copy, Debug, PartialEq)]
@@ -145,6 +163,30 @@ mod calls {
             book_length: usize,
             index: i64,
         ) -> HoldAnswer;
+        pub fn position_book_pair_rows(
+            table: *const u8,
+            table_length: usize,
+            book: *const u8,
+            book_length: usize,
+            first: i64,
+            rows: *mut u8,
+            rows_length: usize,
+        ) -> BlockAnswer;
+        pub fn position_book_hold_rows(
+            table: *const u8,
+            table_length: usize,
+            book: *const u8,
+            book_length: usize,
+            first: i64,
+            rows: *mut u8,
+            rows_length: usize,
+        ) -> BlockAnswer;
+        pub fn position_book_counts(
+            table: *const u8,
+            table_length: usize,
+            book: *const u8,
+            book_length: usize,
+        ) -> CountsAnswer;
         pub fn position_book_event_name(
             table: *const u8,
             table_length: usize,
@@ -259,6 +301,41 @@ pub fn hold_row(table: &[u8], book: &[u8], index: i64) -> HoldAnswer {
             index,
         )
     }
+}
+
+/// The pair rows from number `first` on, one after another from the start of `rows` on: as many as fit.
+pub fn pair_rows(table: &[u8], book: &[u8], first: i64, rows: &mut [u8]) -> BlockAnswer {
+    unsafe {
+        calls::position_book_pair_rows(
+            table.as_ptr(),
+            table.len(),
+            book.as_ptr(),
+            book.len(),
+            first,
+            rows.as_mut_ptr(),
+            rows.len(),
+        )
+    }
+}
+
+/// The hold rows from number `first` on, one after another from the start of `rows` on: as many as fit.
+pub fn hold_rows(table: &[u8], book: &[u8], first: i64, rows: &mut [u8]) -> BlockAnswer {
+    unsafe {
+        calls::position_book_hold_rows(
+            table.as_ptr(),
+            table.len(),
+            book.as_ptr(),
+            book.len(),
+            first,
+            rows.as_mut_ptr(),
+            rows.len(),
+        )
+    }
+}
+
+/// How many hold rows and pair rows the book has.
+pub fn counts(table: &[u8], book: &[u8]) -> CountsAnswer {
+    unsafe { calls::position_book_counts(table.as_ptr(), table.len(), book.as_ptr(), book.len()) }
 }
 
 /// The name of an event of the table by its index, to the start of the buffer.

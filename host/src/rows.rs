@@ -45,26 +45,41 @@ pub struct Hold {
     pub bp: Option<f64>,
 }
 
-/// A yield, where it is present.
-fn yielded(present: u32, bp: f64) -> Option<f64> {
-    (present == 1).then_some(bp)
-}
-
 /// The trade pairs of a book, in their order.
-pub struct Pairs<'a> {
-    table: &'a [u8],
-    book: &'a [u8],
-    next: i64,
-}
+///
+/// ```
+/// use position_book::{Bar, Book, Refusal, Side, Table};
+/// let table = Table::compile("P|soy|M1|0|1|100|1\nO|SO|down\nA|d_u_w_down_任意_任意_0\n")?;
+/// let mut book = Book::fresh(10)?;
+/// for (id, price) in [(1, 100.0), (2, 90.0), (3, 80.0)] {
+///     let signals = if id == 1 { "d_u_w|down_a_b_5\n" } else { "" };
+///     book.feed(&table, Bar { id, instant: id * 1_000_000, offset: 0, price }, signals)?;
+/// }
+/// let pairs: Vec<_> = book.pairs(&table)?.collect();
+/// assert_eq!((pairs.len(), pairs[0].side, pairs[0].bp), (1, Side::Short, Some(2000.0)));
+/// assert_eq!(pairs[0].sequence, "down@is_match -> 平空@1K超时");
+/// # Ok::<(), Refusal>(())
+/// ```
+pub struct Pairs<'a>(Blocks<'a>);
+
+/// The holds of a book, in their order.
+///
+/// ```
+/// use position_book::{Bar, Book, Refusal, Table};
+/// let table = Table::compile("P|soy|M1|0|5|100|0\n")?;
+/// let mut book = Book::fresh(10)?;
+/// for (id, price) in [(1, 100.0), (2, 125.0)] {
+///     book.feed(&table, Bar { id, instant: id * 1_000_000, offset: 0, price }, "")?;
+/// }
+/// let yields: Vec<_> = book.holds(&table)?.map(|hold| hold.bp).collect();
+/// assert_eq!(yields, [Some(2500.0), None]);
+/// # Ok::<(), Refusal>(())
+/// ```
+pub struct Holds<'a>(Blocks<'a>);
 
 impl<'a> Pairs<'a> {
     pub(crate) fn new(table: &'a [u8], book: &'a [u8]) -> Result<Pairs<'a>, Refusal> {
-        checked(table, book)?;
-        Ok(Pairs {
-            table,
-            book,
-            next: 0,
-        })
+        Ok(Pairs(Blocks::new(table, book, raw::pair_rows)?))
     }
 }
 
@@ -72,42 +87,34 @@ impl Iterator for Pairs<'_> {
     type Item = Pair;
 
     fn next(&mut self) -> Option<Pair> {
-        let mut buffer = [0; raw::ROW_BUFFER];
-        let a = raw::pair_row(self.table, self.book, self.next, &mut buffer);
-        done(a.number).ok()?;
-        self.next += 1;
-        let mut rest = buffer.as_slice();
-        Some(Pair {
-            symbol: cut(&mut rest, a.symbol),
-            mark: cut(&mut rest, a.mark),
-            sequence: cut(&mut rest, a.sequence),
-            side: if a.side == 1 { Side::Long } else { Side::Short },
-            opened: a.opened,
-            closed: a.closed,
-            from: a.from,
-            to: a.to,
-            ids: a.ids,
-            days: a.days,
-            bp: yielded(a.present, a.bp),
+        self.0.row(|rest| {
+            let side = i32::from_le_bytes(bytes(rest));
+            let present = u32::from_le_bytes(bytes(rest));
+            let (opened, closed) = (whole(rest), whole(rest));
+            let (from, to) = (double(rest), double(rest));
+            let (ids, days) = (whole(rest), double(rest));
+            let bp = yielded(present, double(rest));
+            let (symbol, mark, sequence) = (length(rest), length(rest), length(rest));
+            Pair {
+                symbol: cut(rest, symbol),
+                mark: cut(rest, mark),
+                sequence: cut(rest, sequence),
+                side: if side == 1 { Side::Long } else { Side::Short },
+                opened,
+                closed,
+                from,
+                to,
+                ids,
+                days,
+                bp,
+            }
         })
     }
 }
 
-/// The holds of a book, in their order.
-pub struct Holds<'a> {
-    table: &'a [u8],
-    book: &'a [u8],
-    next: i64,
-}
-
 impl<'a> Holds<'a> {
     pub(crate) fn new(table: &'a [u8], book: &'a [u8]) -> Result<Holds<'a>, Refusal> {
-        checked(table, book)?;
-        Ok(Holds {
-            table,
-            book,
-            next: 0,
-        })
+        Ok(Holds(Blocks::new(table, book, raw::hold_rows)?))
     }
 }
 
@@ -115,22 +122,108 @@ impl Iterator for Holds<'_> {
     type Item = Hold;
 
     fn next(&mut self) -> Option<Hold> {
-        let a = raw::hold_row(self.table, self.book, self.next);
-        done(a.number).ok()?;
-        self.next += 1;
-        Some(Hold {
-            local: a.local,
-            pos: Pos::from_sign(a.pos),
-            price: a.price,
-            bp: yielded(a.present, a.bp),
+        self.0.row(|rest| {
+            let local = whole(rest);
+            let pos = Pos::from_sign(i32::from_le_bytes(bytes(rest)));
+            let present = u32::from_le_bytes(bytes(rest));
+            let price = double(rest);
+            Hold {
+                local,
+                pos,
+                price,
+                bp: yielded(present, double(rest)),
+            }
         })
     }
 }
 
-/// Whether rows of the book can be asked for.
-fn checked(table: &[u8], book: &[u8]) -> Result<(), Refusal> {
-    match done(raw::hold_row(table, book, 0).number) {
-        Ok(()) | Err(Refusal::NoSuchRow) => Ok(()),
-        Err(why) => Err(why),
+/// The first block's length; each next one has twice the room, so that few checks of the book answer all rows.
+const FIRST_BLOCK: usize = 1 << 16;
+
+/// The longest block.
+const LAST_BLOCK: usize = 1 << 24;
+
+/// The rows of a book, a block of them after each check.
+struct Blocks<'a> {
+    table: &'a [u8],
+    book: &'a [u8],
+    ask: Ask,
+    /// The block, where its next row stands, and where its rows end.
+    block: Vec<u8>,
+    at: usize,
+    end: usize,
+    /// The first row behind the block; none behind the last block.
+    next: Option<i64>,
+}
+
+/// A call that answers a block of rows.
+type Ask = fn(&[u8], &[u8], i64, &mut [u8]) -> raw::BlockAnswer;
+
+impl<'a> Blocks<'a> {
+    fn new(table: &'a [u8], book: &'a [u8], ask: Ask) -> Result<Blocks<'a>, Refusal> {
+        let mut blocks = Blocks {
+            table,
+            book,
+            ask,
+            block: vec![0; FIRST_BLOCK],
+            at: 0,
+            end: 0,
+            next: Some(0),
+        };
+        blocks.fill()?;
+        Ok(blocks)
     }
+
+    /// Asks for the next block. It is empty where there are no more rows.
+    fn fill(&mut self) -> Result<(), Refusal> {
+        let Some(first) = self.next else {
+            return Ok(());
+        };
+        let a = (self.ask)(self.table, self.book, first, &mut self.block);
+        match done(a.number) {
+            Err(Refusal::NoSuchRow) => self.next = None,
+            Err(why) => return Err(why),
+            Ok(()) => self.next = Some(first + a.rows as i64),
+        }
+        (self.at, self.end) = (0, a.length);
+        Ok(())
+    }
+
+    /// The next row, as it is read from the bytes.
+    fn row<R>(&mut self, read: impl Fn(&mut &[u8]) -> R) -> Option<R> {
+        if self.at == self.end {
+            self.next?;
+            self.block.resize(LAST_BLOCK.min(2 * self.block.len()), 0);
+            self.fill().ok()?;
+            self.next?;
+        }
+        let mut rest = &self.block[self.at..self.end];
+        let row = read(&mut rest);
+        self.at = self.end - rest.len();
+        Some(row)
+    }
+}
+
+/// The first N bytes, which are then behind us.
+fn bytes<const N: usize>(rest: &mut &[u8]) -> [u8; N] {
+    let (first, later) = rest.split_first_chunk().expect("a whole row");
+    *rest = later;
+    *first
+}
+
+fn whole(rest: &mut &[u8]) -> i64 {
+    i64::from_le_bytes(bytes(rest))
+}
+
+fn double(rest: &mut &[u8]) -> f64 {
+    f64::from_le_bytes(bytes(rest))
+}
+
+fn length(rest: &mut &[u8]) -> usize {
+    u64::from_le_bytes(bytes(rest)) as usize
+}
+
+/// A yield, where it is present.
+fn yielded(present: u32, bp: f64) -> Option<f64> {
+    (present == 1).then_some(bp)
 }

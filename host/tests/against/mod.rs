@@ -87,6 +87,8 @@ macro_rules! words {
 
 words!(NameAnswer: number, length);
 words!(OperateAnswer: number, code);
+words!(BlockAnswer: number, rows, length);
+words!(CountsAnswer: number, holds, pairs);
 words!(SignalAnswer: number, score, key, v1, v2, v3);
 words!(FeedAnswer: number, pos, changed, decision, event);
 words!(HoldAnswer: number, local, pos, present; price, bp);
@@ -143,6 +145,25 @@ pub const PAIR_ROW: Call = call!(
     &mut a.buffer
 );
 pub const HOLD_ROW: Call = call!(hold_row, [0, 8, 9, 10, 15], a, &a.table, &a.book, a.index);
+pub const PAIR_ROWS: Call = call!(
+    pair_rows,
+    [0, 8, 9, 10, 15],
+    a,
+    &a.table,
+    &a.book,
+    a.index,
+    &mut a.buffer
+);
+pub const HOLD_ROWS: Call = call!(
+    hold_rows,
+    [0, 8, 9, 10, 15],
+    a,
+    &a.table,
+    &a.book,
+    a.index,
+    &mut a.buffer
+);
+pub const COUNTS: Call = call!(counts, [0, 8, 9, 10], a, &a.table, &a.book);
 pub const EVENT_NAME: Call = call!(
     event_name,
     [0, 8, 9, 15],
@@ -155,7 +176,7 @@ pub const SIGNAL: Call = call!(signal, [0, 1, 2, 5, 6, 7, 8], a, &a.text, &mut a
 pub const OPERATE: Call = call!(operate, [0, 1, 2, 4, 7], a, &a.text);
 pub const OPERATE_NAME: Call = call!(operate_name, [0, 4, 8], a, a.code, &mut a.buffer);
 
-pub const CALLS: [&Call; 11] = [
+pub const CALLS: [&Call; 14] = [
     &COMPILE,
     &FRESH,
     &FEED,
@@ -163,6 +184,9 @@ pub const CALLS: [&Call; 11] = [
     &RESTORE,
     &PAIR_ROW,
     &HOLD_ROW,
+    &PAIR_ROWS,
+    &HOLD_ROWS,
+    &COUNTS,
     &EVENT_NAME,
     &SIGNAL,
     &OPERATE,

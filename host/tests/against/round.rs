@@ -6,6 +6,9 @@ use crate::model::table::{encode, read_table};
 use inputs::{Bar, Rng, Step};
 use position_book::raw::{NAME_LIMIT, ROW_BUFFER, TABLE_LENGTH, book_length};
 
+/// The least length of a buffer for a block of pair rows.
+const PAIR_BLOCK: usize = 88 + ROW_BUFFER;
+
 /// A season, and the comparisons made on the way.
 struct Round<'a> {
     rng: Rng,
@@ -36,6 +39,7 @@ pub fn round(comparison: &mut Comparison, seed: u64) {
     round.lengths();
     round.rows(&PAIR_ROW);
     round.rows(&HOLD_ROW);
+    round.blocks();
     round.made_books(&season.bars().collect::<Vec<_>>());
 }
 
@@ -203,7 +207,8 @@ impl Round<'_> {
     fn astray(&mut self) {
         let mut arguments = self.arguments.clone();
         arguments.index = self.index(4);
-        arguments.buffer = buffer(&mut self.rng, ROW_BUFFER + 1);
+        let room = *self.rng.pick(&[ROW_BUFFER + 1, PAIR_BLOCK]);
+        arguments.buffer = buffer(&mut self.rng, room);
         match self.rng.below(5) {
             0 => arguments.table = self.faulty_table(&arguments.table),
             1 => arguments.book = self.faulty_book(&arguments.book),
@@ -211,7 +216,10 @@ impl Round<'_> {
             3 => arguments.image = self.faulty_book(&arguments.image),
             _ => arguments.book = self.arguments.image.clone(),
         }
-        let call = *self.rng.pick(&[&SAVE, &RESTORE, &PAIR_ROW, &HOLD_ROW]);
+        let calls = [
+            &SAVE, &RESTORE, &PAIR_ROW, &HOLD_ROW, &PAIR_ROWS, &HOLD_ROWS, &COUNTS,
+        ];
+        let call = *self.rng.pick(&calls);
         self.run(call, &arguments);
     }
 
@@ -243,21 +251,41 @@ impl Round<'_> {
         }
     }
 
+    /// Blocks of rows of the season's book, from any row on, into a buffer for one row or for some.
+    fn blocks(&mut self) {
+        self.run(&COUNTS, &self.arguments.clone());
+        for call in [&PAIR_ROWS, &HOLD_ROWS] {
+            let shortest = if call.name == HOLD_ROWS.name {
+                32
+            } else {
+                PAIR_BLOCK
+            };
+            for _ in 0..4 {
+                let more = *self.rng.pick(&[0, 1, 31, 32, 100, 300, 5_000]);
+                let mut arguments = self.arguments.clone();
+                arguments.buffer = buffer(&mut self.rng, shortest + more);
+                arguments.index = self.index(3);
+                self.run(call, &arguments);
+            }
+        }
+    }
+
     /// Books that no season gives: rows, a save and a restore of them, and bars behind them.
     fn made_books(&mut self, bars: &[&Bar]) {
         for _ in 0..6 {
             let mut arguments = self.arguments.clone();
             arguments.book = books::made(&mut self.rng, self.events);
             arguments.image = buffer(&mut self.rng, arguments.book.len());
-            arguments.buffer = buffer(&mut self.rng, ROW_BUFFER);
+            arguments.buffer = buffer(&mut self.rng, PAIR_BLOCK);
             arguments.index = self.index(2);
             match self.rng.below(4) {
                 0 => arguments.table = self.faulty_table(&arguments.table),
                 1 => arguments.book = books::fault(&mut self.rng, &arguments.book),
                 _ => {}
             }
-            self.run(&PAIR_ROW, &arguments);
-            self.run(&HOLD_ROW, &arguments);
+            for call in [&PAIR_ROW, &HOLD_ROW, &PAIR_ROWS, &HOLD_ROWS, &COUNTS] {
+                self.run(call, &arguments);
+            }
             let saved = self.run(&SAVE, &arguments).1;
             self.run(&RESTORE, &saved);
             self.feed_made(bars, arguments);

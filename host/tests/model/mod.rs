@@ -1,6 +1,7 @@
-//! A model of document 01 in plain Rust, written from its text: one file for each of its headings, every call with the
+//! A model of document 01 in plain Rust, written from its text: one file for each of its headings and one for what goes beyond it, every call with the
 //! arguments, the answer and the lent bytes of the exported one. It knows nothing of the library but the shapes of the answers.
 
+pub mod blocks;
 pub mod book;
 pub mod machine;
 pub mod matching;
@@ -8,6 +9,7 @@ pub mod rows;
 pub mod table;
 pub mod texts;
 
+pub use blocks::{counts, hold_rows, pair_rows};
 pub use book::{feed, fresh, restore, save};
 pub use rows::{event_name, hold_row, pair_row};
 pub use table::compile;

@@ -16,7 +16,7 @@ fn row_at<T>(mut rows: impl Iterator<Item = T>, index: i64) -> Answer<T> {
 }
 
 /// Neighbouring records whose first is LO or SO.
-fn pairs(state: &State) -> impl Iterator<Item = (Record, Record)> {
+pub fn pairs(state: &State) -> impl Iterator<Item = (Record, Record)> {
     let neighbours = state.records.windows(2).map(|pair| (pair[0], pair[1]));
     neighbours.filter(|(first, _)| [LO, SO].contains(&first.operate))
 }

@@ -1,0 +1,90 @@
+//! Rows in blocks are the rows asked one by one, over several blocks of a long book, and there are as many as the counts say.
+
+use position_book::{Bar, Book, Hold, Pair, Pos, Refusal, Side, Table, raw};
+
+const BARS: i64 = 5_000;
+
+/// A book of bars that open and close by turns.
+fn long_book(table: &Table) -> Result<Book, Refusal> {
+    let mut book = Book::fresh(BARS as usize)?;
+    for id in 0..BARS {
+        let bar = Bar {
+            id,
+            instant: id * 1_000_000,
+            offset: 28_800,
+            price: 3_000.0 + (id * 7 % 100) as f64,
+        };
+        let signals = ["a_b_c|up_x_y_1\n", "a_b_c|down_x_y_1\n", ""][id as usize % 3];
+        book.feed(table, bar, signals)?;
+    }
+    Ok(book)
+}
+
+fn table() -> Result<Table, Refusal> {
+    Table::compile(concat!(
+        "P|豆粕套保|M2701|0|2|100|1\n",
+        "O|LO|开多#上行\nA|a_b_c_up_任意_任意_0\n",
+        "O|SO|SO#下行\nA|a_b_c_down_任意_任意_0\n",
+    ))
+}
+
+/// A yield, where it is present.
+fn yielded(present: u32, bp: f64) -> Option<f64> {
+    (present == 1).then_some(bp)
+}
+
+/// Pair row number i, asked alone.
+fn pair(table: &Table, book: &Book, i: i64) -> Option<Pair> {
+    let mut buffer = [0; raw::ROW_BUFFER];
+    let a = raw::pair_row(table.as_bytes(), book.as_bytes(), i, &mut buffer);
+    let text = |from: usize, n: usize| String::from_utf8(buffer[from..from + n].to_vec()).unwrap();
+    (a.number == 0).then(|| Pair {
+        symbol: text(0, a.symbol),
+        mark: text(a.symbol, a.mark),
+        sequence: text(a.symbol + a.mark, a.sequence),
+        side: if a.side == 1 { Side::Long } else { Side::Short },
+        opened: a.opened,
+        closed: a.closed,
+        from: a.from,
+        to: a.to,
+        ids: a.ids,
+        days: a.days,
+        bp: yielded(a.present, a.bp),
+    })
+}
+
+/// Hold row number i, asked alone.
+fn hold(table: &Table, book: &Book, i: i64) -> Option<Hold> {
+    let a = raw::hold_row(table.as_bytes(), book.as_bytes(), i);
+    (a.number == 0).then(|| Hold {
+        local: a.local,
+        pos: [Pos::Short, Pos::Flat, Pos::Long][(a.pos + 1) as usize],
+        price: a.price,
+        bp: yielded(a.present, a.bp),
+    })
+}
+
+#[test]
+fn blocks_have_the_single_rows() -> Result<(), Refusal> {
+    let table = table()?;
+    let book = long_book(&table)?;
+    let pairs: Vec<Pair> = (0..).map_while(|i| pair(&table, &book, i)).collect();
+    let holds: Vec<Hold> = (0..).map_while(|i| hold(&table, &book, i)).collect();
+    assert!(pairs.len() > 2_000);
+    assert_eq!(book.pairs(&table)?.collect::<Vec<_>>(), pairs);
+    assert_eq!(book.holds(&table)?.collect::<Vec<_>>(), holds);
+    assert_eq!(book.count_pairs(&table)?, pairs.len());
+    assert_eq!(book.len(), holds.len());
+    Ok(())
+}
+
+#[test]
+fn an_empty_book_has_no_rows() -> Result<(), Refusal> {
+    let table = table()?;
+    let book = Book::fresh(1)?;
+    let mut pairs = book.pairs(&table)?;
+    assert_eq!((pairs.next(), pairs.next()), (None, None));
+    assert_eq!(book.holds(&table)?.count(), 0);
+    assert_eq!(book.count_pairs(&table)?, 0);
+    Ok(())
+}
