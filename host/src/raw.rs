@@ -9,6 +9,12 @@ pub const TABLE_LENGTH: usize = 32_768;
 /// The least length of a row buffer.
 pub const ROW_BUFFER: usize = 2_048;
 
+/// The bytes of a hold row in a block.
+pub const HOLD_ROW: usize = 32;
+
+/// The most bytes of a pair row in a block: its numbers, and texts that fit a row buffer.
+pub const PAIR_ROW_LIMIT: usize = 88 + ROW_BUFFER;
+
 /// The most bytes of an event's name.
 pub const NAME_LIMIT: usize = 256;
 

@@ -79,7 +79,11 @@ pub struct Holds<'a>(Blocks<'a>);
 
 impl<'a> Pairs<'a> {
     pub(crate) fn new(table: &'a [u8], book: &'a [u8]) -> Result<Pairs<'a>, Refusal> {
-        Ok(Pairs(Blocks::new(table, book, raw::pair_rows)?))
+        let ask = Ask {
+            rows: raw::pair_rows,
+            longest: raw::PAIR_ROW_LIMIT,
+        };
+        Ok(Pairs(Blocks::new(table, book, ask)?))
     }
 }
 
@@ -114,7 +118,11 @@ impl Iterator for Pairs<'_> {
 
 impl<'a> Holds<'a> {
     pub(crate) fn new(table: &'a [u8], book: &'a [u8]) -> Result<Holds<'a>, Refusal> {
-        Ok(Holds(Blocks::new(table, book, raw::hold_rows)?))
+        let ask = Ask {
+            rows: raw::hold_rows,
+            longest: raw::HOLD_ROW,
+        };
+        Ok(Holds(Blocks::new(table, book, ask)?))
     }
 }
 
@@ -138,7 +146,7 @@ impl Iterator for Holds<'_> {
 }
 
 /// The first block's length; each next one has twice the room, so that few checks of the book answer all rows.
-const FIRST_BLOCK: usize = 1 << 16;
+const FIRST_BLOCK: usize = 1 << 20;
 
 /// The longest block.
 const LAST_BLOCK: usize = 1 << 24;
@@ -156,8 +164,11 @@ struct Blocks<'a> {
     next: Option<i64>,
 }
 
-/// A call that answers a block of rows.
-type Ask = fn(&[u8], &[u8], i64, &mut [u8]) -> raw::BlockAnswer;
+/// A call that answers a block of rows, and the length of its longest row.
+struct Ask {
+    rows: fn(&[u8], &[u8], i64, &mut [u8]) -> raw::BlockAnswer,
+    longest: usize,
+}
 
 impl<'a> Blocks<'a> {
     fn new(table: &'a [u8], book: &'a [u8], ask: Ask) -> Result<Blocks<'a>, Refusal> {
@@ -174,17 +185,18 @@ impl<'a> Blocks<'a> {
         Ok(blocks)
     }
 
-    /// Asks for the next block. It is empty where there are no more rows.
+    /// Asks for the next block, where there may be one. It is the last where it has room for another row.
     fn fill(&mut self) -> Result<(), Refusal> {
         let Some(first) = self.next else {
             return Ok(());
         };
-        let a = (self.ask)(self.table, self.book, first, &mut self.block);
+        let a = (self.ask.rows)(self.table, self.book, first, &mut self.block);
         match done(a.number) {
-            Err(Refusal::NoSuchRow) => self.next = None,
+            Ok(()) | Err(Refusal::NoSuchRow) => {}
             Err(why) => return Err(why),
-            Ok(()) => self.next = Some(first + a.rows as i64),
         }
+        let is_last = self.block.len() - a.length >= self.ask.longest;
+        self.next = (!is_last).then_some(first + a.rows as i64);
         (self.at, self.end) = (0, a.length);
         Ok(())
     }
@@ -195,7 +207,9 @@ impl<'a> Blocks<'a> {
             self.next?;
             self.block.resize(LAST_BLOCK.min(2 * self.block.len()), 0);
             self.fill().ok()?;
-            self.next?;
+        }
+        if self.at == self.end {
+            return None;
         }
         let mut rest = &self.block[self.at..self.end];
         let row = read(&mut rest);

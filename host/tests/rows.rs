@@ -2,12 +2,15 @@
 
 use position_book::{Bar, Book, Hold, Pair, Pos, Refusal, Side, Table, raw};
 
-const BARS: i64 = 5_000;
-
-/// A book of bars that open and close by turns.
+/// A book of several blocks.
 fn long_book(table: &Table) -> Result<Book, Refusal> {
-    let mut book = Book::fresh(BARS as usize)?;
-    for id in 0..BARS {
+    book_of(table, 60_000)
+}
+
+/// A book of so many bars, which open and close by turns.
+fn book_of(table: &Table, bars: i64) -> Result<Book, Refusal> {
+    let mut book = Book::fresh(bars as usize)?;
+    for id in 0..bars {
         let bar = Bar {
             id,
             instant: id * 1_000_000,
@@ -64,17 +67,45 @@ fn hold(table: &Table, book: &Book, i: i64) -> Option<Hold> {
     })
 }
 
+/// Some of so many row numbers: spread ones, those around the end of the first block of hold rows, and the last.
+fn sample(rows: usize) -> impl Iterator<Item = usize> {
+    let first_block = (1 << 20) / raw::HOLD_ROW;
+    let numbers = (0..rows)
+        .step_by(487)
+        .chain(first_block - 2..first_block + 3);
+    numbers.chain([rows - 1]).filter(move |i| *i < rows)
+}
+
 #[test]
 fn blocks_have_the_single_rows() -> Result<(), Refusal> {
     let table = table()?;
     let book = long_book(&table)?;
-    let pairs: Vec<Pair> = (0..).map_while(|i| pair(&table, &book, i)).collect();
-    let holds: Vec<Hold> = (0..).map_while(|i| hold(&table, &book, i)).collect();
-    assert!(pairs.len() > 2_000);
-    assert_eq!(book.pairs(&table)?.collect::<Vec<_>>(), pairs);
-    assert_eq!(book.holds(&table)?.collect::<Vec<_>>(), holds);
-    assert_eq!(book.count_pairs(&table)?, pairs.len());
-    assert_eq!(book.len(), holds.len());
+    let pairs: Vec<Pair> = book.pairs(&table)?.collect();
+    let holds: Vec<Hold> = book.holds(&table)?.collect();
+    assert_eq!(pairs.len(), book.count_pairs(&table)?);
+    assert_eq!(holds.len(), book.len());
+    for i in sample(pairs.len()) {
+        assert_eq!(pair(&table, &book, i as i64).as_ref(), Some(&pairs[i]));
+    }
+    for i in sample(holds.len()) {
+        assert_eq!(hold(&table, &book, i as i64).as_ref(), Some(&holds[i]));
+    }
+    assert_eq!(pair(&table, &book, pairs.len() as i64), None);
+    assert_eq!(hold(&table, &book, holds.len() as i64), None);
+    Ok(())
+}
+
+/// A book whose hold rows fill the first block to its last byte, one with a row less, and one with a row more.
+#[test]
+fn a_full_block_is_not_the_end() -> Result<(), Refusal> {
+    let table = table()?;
+    let first_block = (1 << 20) / raw::HOLD_ROW;
+    for bars in [first_block - 1, first_block, first_block + 1] {
+        let book = book_of(&table, bars as i64)?;
+        let mut holds = book.holds(&table)?;
+        assert_eq!(holds.by_ref().count(), bars);
+        assert_eq!(holds.next(), None);
+    }
     Ok(())
 }
 

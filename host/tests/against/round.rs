@@ -4,10 +4,7 @@ use super::numbers::{buffer, double, integer, resized};
 use super::*;
 use crate::model::table::{encode, read_table};
 use inputs::{Bar, Rng, Step};
-use position_book::raw::{NAME_LIMIT, ROW_BUFFER, TABLE_LENGTH, book_length};
-
-/// The least length of a buffer for a block of pair rows.
-const PAIR_BLOCK: usize = 88 + ROW_BUFFER;
+use position_book::raw::{NAME_LIMIT, PAIR_ROW_LIMIT, ROW_BUFFER, TABLE_LENGTH, book_length};
 
 /// A season, and the comparisons made on the way.
 struct Round<'a> {
@@ -207,7 +204,7 @@ impl Round<'_> {
     fn astray(&mut self) {
         let mut arguments = self.arguments.clone();
         arguments.index = self.index(4);
-        let room = *self.rng.pick(&[ROW_BUFFER + 1, PAIR_BLOCK]);
+        let room = *self.rng.pick(&[ROW_BUFFER + 1, PAIR_ROW_LIMIT]);
         arguments.buffer = buffer(&mut self.rng, room);
         match self.rng.below(5) {
             0 => arguments.table = self.faulty_table(&arguments.table),
@@ -258,7 +255,7 @@ impl Round<'_> {
             let shortest = if call.name == HOLD_ROWS.name {
                 32
             } else {
-                PAIR_BLOCK
+                PAIR_ROW_LIMIT
             };
             for _ in 0..4 {
                 let more = *self.rng.pick(&[0, 1, 31, 32, 100, 300, 5_000]);
@@ -276,7 +273,7 @@ impl Round<'_> {
             let mut arguments = self.arguments.clone();
             arguments.book = books::made(&mut self.rng, self.events);
             arguments.image = buffer(&mut self.rng, arguments.book.len());
-            arguments.buffer = buffer(&mut self.rng, PAIR_BLOCK);
+            arguments.buffer = buffer(&mut self.rng, PAIR_ROW_LIMIT);
             arguments.index = self.index(2);
             match self.rng.below(4) {
                 0 => arguments.table = self.faulty_table(&arguments.table),
