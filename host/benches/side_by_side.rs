@@ -2,6 +2,7 @@
 //!
 //!     side_by_side feed                            a feed, by the size of the sheet and the number of signals
 //!     side_by_side book                            compiling; a book of 1,000,000 bars: feeds as it grows, save, restore, all rows
+//!     side_by_side program BIN                     whole runs of the run program BIN
 //!     side_by_side count WHO SIZE SIGNALS BARS     only feeds, of `ours`, `text` or `map`, within the function `measured`
 //!
 //! The Rust is given the same lines, of which it makes its map (`text`); and, beside it, its map for nothing (`map`).
@@ -16,6 +17,8 @@ use position_book::{Book, Table, raw};
 use reference::objects::position::{LiteBar, Pos, Position};
 use std::collections::HashMap;
 use std::hint::black_box;
+use std::io::Write;
+use std::process::{Command, Stdio};
 use std::time::Instant;
 
 type Map = HashMap<String, String>;
@@ -42,9 +45,10 @@ fn main() {
     match words[..] {
         ["feed"] => feeds(),
         ["book"] => book(),
+        ["program", bin] => program(bin),
         ["count", who, size, signals, bars] => count(who, size, signals, bars),
         _ => {
-            eprintln!("side_by_side feed | book | count ours|text|map SIZE SIGNALS BARS");
+            eprintln!("side_by_side feed | book | program BIN | count WHO SIZE SIGNALS BARS");
             std::process::exit(2);
         }
     }
@@ -357,4 +361,40 @@ fn all_rows(sides: &Sides) {
         },
         || drop(black_box(sides.position.holds().expect("its holds"))),
     );
+}
+
+/// Whole runs of the run program, its start and the pipes to and from it included.
+fn program(bin: &str) {
+    println!("| input | bytes | printed | ms |");
+    println!("|---|---|---|---|");
+    for bars in [20, 600] {
+        let sheet = sheet(SIZES[0]).text();
+        let lines: String = season(bars, 1).iter().map(Bar::lines).collect();
+        let input = format!("{sheet}-\n{lines}");
+        let mut printed = 0;
+        let mut times = Vec::new();
+        for _ in 0..40 {
+            let (ns, n) = timed(|| run_once(bin, input.as_bytes()));
+            times.push(ns / 1e6);
+            printed = n;
+        }
+        let (best, median) = least_and_median(times);
+        println!(
+            "| the small sheet, {bars} bars with a signal each | {} | {printed} | {best:.2} ({median:.2}) |",
+            input.len()
+        );
+    }
+}
+
+/// Runs the program over an input: how many bytes it prints.
+fn run_once(bin: &str, input: &[u8]) -> usize {
+    let mut child = Command::new(bin)
+        .stdin(Stdio::piped())
+        .stdout(Stdio::piped())
+        .spawn()
+        .expect("the run program starts");
+    let mut stdin = child.stdin.take().expect("its input is a pipe");
+    stdin.write_all(input).expect("it reads its input");
+    drop(stdin);
+    child.wait_with_output().expect("it ends").stdout.len()
 }

@@ -6,22 +6,23 @@
 //! Rust's results. [`raw`] has the calls as they are.
 //!
 //! ```
-//! use position_book::{Bar, Book, Pos, Refusal, Table};
+//! use position_book::{Bar, Book, Pos, Refusal, Table, signal_lines};
 //!
-//! let table = Table::compile(concat!(
-//!     "P|soy|M1|0|5|100|0\n",
-//!     "O|LO|go\nA|d1_u_w_up_任意_任意_10\n",
-//!     "X|LE|out\nA|d1_u_w_down_任意_任意_0\n",
-//! ))?;
+//! let table = Table::compile("P|soy|M1|0|5|100|0\nO|LO|go\nA|d1_u_w_up_任意_任意_10\n")?;
 //! let mut book = Book::fresh(900)?;
-//! let day = 86_400_000_000;
-//! book.feed(&table, Bar { id: 1, instant: 0, offset: 0, price: 100.0 }, "d1_u_w|up_a_b_10\n")?;
-//! book.feed(&table, Bar { id: 2, instant: day, offset: 0, price: 125.0 }, "d1_u_w|down_a_b_5\n")?;
-//! assert_eq!(book.pos(), Pos::Flat);
+//! let signals = signal_lines([("d1_u_w", "up_a_b_10")])?;
+//! let decision = book.feed(&table, Bar { id: 1, instant: 0, offset: 0, price: 100.0 }, &signals)?;
+//! assert_eq!((decision.pos, decision.changed), (Pos::Long, true));
 //!
+//! let next = book.feed(&table, Bar { id: 7, instant: 86_400_000_000, offset: 0, price: 125.0 }, "")?;
+//! assert_eq!(next.pos, Pos::Flat);
 //! let pair = book.pairs(&table)?.next().unwrap();
-//! assert_eq!(pair.sequence, "go@is_match -> out@is_match");
-//! assert_eq!((pair.ids, pair.days, pair.bp), (1, 1.0, Some(2500.0)));
+//! assert_eq!((pair.sequence.as_str(), pair.bp), ("go@is_match -> 平多@5K超时", Some(2500.0)));
+//!
+//! let image = book.save(&table)?;
+//! let mut again = Book::from_image(&table, &image)?;
+//! assert_eq!(again.holds(&table)?.map(|hold| hold.price).collect::<Vec<_>>(), [100.0, 125.0]);
+//! assert_eq!(again.feed(&table, Bar { id: 8, instant: 5, offset: 0, price: 1.0 }, ""), Err(Refusal::NotLater));
 //! # Ok::<(), Refusal>(())
 //! ```
 
