@@ -3,46 +3,36 @@
 use std::error::Error;
 use std::fmt;
 
-/// Why a call was refused. A refusal changed no byte.
-#[derive(Clone, Copy, Debug, PartialEq, Eq, Hash)]
-pub enum Refusal {
-    NotUtf8,
-    Malformed,
-    WrongNumber,
-    UnknownOperate,
-    WrongParts,
-    WrongScore,
-    PastLimit,
-    WrongLength,
-    NotTable,
-    NotBook,
-    BarOutOfRange,
-    KeyTwice,
-    NotLater,
-    Full,
-    NoSuchRow,
+/// Makes the enum of refusals of their names and meanings, in the order of their numbers, from 1.
+macro_rules! refusals {
+    ($($name:ident: $meaning:literal,)*) => {
+        /// Why a call was refused. A refusal changed no byte.
+        #[derive(Clone, Copy, Debug, PartialEq, Eq, Hash)]
+        pub enum Refusal {
+            $(#[doc = concat!("Refused: ", $meaning, ".")] $name,)*
+        }
+
+        const ALL: &[(Refusal, &str)] = &[$((Refusal::$name, $meaning),)*];
+    };
 }
 
-use Refusal::*;
-
-// Every refusal, in the order of its number, from 1.
-const ALL: [Refusal; 15] = [
-    NotUtf8,
-    Malformed,
-    WrongNumber,
-    UnknownOperate,
-    WrongParts,
-    WrongScore,
-    PastLimit,
-    WrongLength,
-    NotTable,
-    NotBook,
-    BarOutOfRange,
-    KeyTwice,
-    NotLater,
-    Full,
-    NoSuchRow,
-];
+refusals! {
+    NotUtf8: "the text is not UTF-8",
+    Malformed: "a line lacks its LF, or has a wrong tag, place or field count",
+    WrongNumber: "a numeric field is malformed or out of range",
+    UnknownOperate: "the operate is unknown",
+    WrongParts: "a signal does not have 7 parts",
+    WrongScore: "a score is unreadable or outside 0..100",
+    PastLimit: "a text, a name or a count passes its limit",
+    WrongLength: "a buffer does not have the length that the call needs",
+    NotTable: "the bytes are not a table",
+    NotBook: "the bytes are not a book of the table",
+    BarOutOfRange: "a field of the bar is outside its range",
+    KeyTwice: "a key stands twice among the bar's signals",
+    NotLater: "the bar is not later than the one before it",
+    Full: "the book has no room for another bar",
+    NoSuchRow: "there is no row with this index",
+}
 
 impl Refusal {
     /// The number that document 01 gives it, 1 to 15.
@@ -58,28 +48,13 @@ impl Refusal {
 
     /// The refusal with the number; none for 0, which says that a call was done, and for a number above 15.
     pub fn from_number(number: u32) -> Option<Refusal> {
-        ALL.get((number as usize).checked_sub(1)?).copied()
+        let (refusal, _) = ALL.get((number as usize).checked_sub(1)?)?;
+        Some(*refusal)
     }
 
     /// What it means, in words.
     pub fn meaning(self) -> &'static str {
-        match self {
-            NotUtf8 => "the text is not UTF-8",
-            Malformed => "a line lacks its LF, or has a wrong tag, place or field count",
-            WrongNumber => "a numeric field is malformed or out of range",
-            UnknownOperate => "the operate is unknown",
-            WrongParts => "a signal does not have 7 parts",
-            WrongScore => "a score is unreadable or outside 0..100",
-            PastLimit => "a text, a name or a count passes its limit",
-            WrongLength => "a buffer does not have the length that the call needs",
-            NotTable => "the bytes are not a table",
-            NotBook => "the bytes are not a book of the table",
-            BarOutOfRange => "a field of the bar is outside its range",
-            KeyTwice => "a key stands twice among the bar's signals",
-            NotLater => "the bar is not later than the one before it",
-            Full => "the book has no room for another bar",
-            NoSuchRow => "there is no row with this index",
-        }
+        ALL[self as usize].1
     }
 }
 
