@@ -1,5 +1,5 @@
 -- Fresh, feed, save and restore: the number, the values and the lent bytes at exit, for every input. Where a call is refused its bytes are
--- unchanged: at exit they are `orElse` those at entry. Assumes nothing.
+-- unchanged: at exit they are `gotOr` those at entry. Assumes nothing.
 use Prim.Native.Nat.{ℕ, _+_, _-_}
 use mathlib.Core.Bool.{cond}
 use mathlib.Core.List.{List}

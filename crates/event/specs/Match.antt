@@ -72,10 +72,10 @@ unfoldable pub firstOf : (Event → Bool) → ℕ → List Line → List Event �
 firstOf kind k ls [] = none
 firstOf kind k ls (e ∷ es) = cond (kind e && matches ls e) (some k) (firstOf kind (suc k) ls es)
 
-abbrev pub before : Option ℕ → Option ℕ → Option ℕ
-before none y = y
-before (some x) y = some x
+abbrev pub preferred : Option ℕ → Option ℕ → Option ℕ
+preferred none y = y
+preferred (some x) y = some x
 
 -- "The first event that matches is chosen, openings before exits; none exactly when none matches."
 unfoldable pub firstMatch : List Event → List Line → Option ℕ
-firstMatch es ls = before (firstOf isOpening 0 ls es) (firstOf isExit 0 ls es)
+firstMatch es ls = preferred (firstOf isOpening 0 ls es) (firstOf isExit 0 ls es)

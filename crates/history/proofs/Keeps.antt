@@ -7,7 +7,7 @@ use mathlib.Core.Path.{_≡_, refl, sym, ap, _∙_}
 use lib.Dec.{T}
 use lib.Ieee.{binary64, fits}
 use lib.ListN.{length}
-use Rattle.text.specs.Answer.{Answer, Refused, Got, _>>=_, number, orElse}
+use Rattle.text.specs.Answer.{Answer, Refused, Got, _>>=_, number, gotOr}
 use Rattle.text.specs.Text.{same}
 use Rattle.text.proofs.Same.{same-eq}
 use Rattle.text.proofs.Refusals.{Gives, refuses, gives, Any}
@@ -35,7 +35,7 @@ module _ (table : List ℕ) (s : Sheet) (l : Ledger) (b : List ℕ) (good : Good
   save-keeps = go (save-gives t b image)
     where
       go : {a : Answer (List ℕ)} → Gives (λ x. x ≡ b) a
-          → Good s (ifDone (number a) (record { past = l .past; saves = note (orElse image a) (l .past) (l .saves) }) l) b
+          → Good s (ifDone (number a) (record { past = l .past; saves = note (gotOr image a) (l .past) (l .saves) }) l) b
       go refuses = good
       go (gives {x} e) =
           record { book = good .book; saves = note-right s x (l .past) (l .saves) (rw e (good .book)) (good .saves) }
@@ -44,7 +44,7 @@ module _ (table : List ℕ) (s : Sheet) (l : Ledger) (b : List ℕ) (good : Good
   restore-keeps = go (restore-gives t b image)
     where
       go : {a : Answer (List ℕ)} → Gives (λ x. x ≡ image) a
-          → Good s (ifDone (number a) (record { past = savedAs image (l .saves); saves = l .saves }) l) (orElse b a)
+          → Good s (ifDone (number a) (record { past = savedAs image (l .saves); saves = l .saves }) l) (gotOr b a)
       go refuses = good
       go (gives e) = record { book = rw e (saved-follows s image (l .saves) (good .saves)); saves = good .saves }
 
@@ -84,7 +84,7 @@ module _ (table : List ℕ) (s : Sheet) (meant : readTable table ≡ Got s) wher
     pub fresh-keeps : Good s (survive table l Fresh (answered b Fresh)) (after b Fresh)
     fresh-keeps = go (fresh-gives b)
       where
-        go : {a : Answer (List ℕ)} → Gives (Cleared b) a → Good s (ifDone (number a) (record { past = Known []; saves = l .saves }) l) (orElse b a)
+        go : {a : Answer (List ℕ)} → Gives (Cleared b) a → Good s (ifDone (number a) (record { past = Known []; saves = l .saves }) l) (gotOr b a)
         go refuses = good
         go (gives {x} e) = record { book = fresh-book b x e; saves = good .saves }
 

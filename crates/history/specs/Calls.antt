@@ -3,7 +3,7 @@ use Prim.Native.Nat.{ℕ, zero, suc}
 use mathlib.Core.Bool.{cond}
 use mathlib.Core.List.{List, [], _∷_, _++_}
 use lib.IntN.{ℤ}
-use Rattle.text.specs.Answer.{Answer, Refused, Got, number, orElse}
+use Rattle.text.specs.Answer.{Answer, Refused, Got, number, gotOr}
 use Rattle.text.specs.Text.{same}
 use Rattle.position.specs.Step.{Fed}
 use Rattle.position.specs.Feed.{Input, fedOf}
@@ -29,17 +29,17 @@ pub record Answered : Type 0 where
 abbrev pub answered : List ℕ → Call → Answered
 answered b Fresh = record { number = number (freshDo b); image = [] }
 answered b (Feed t i) = record { number = number (feedDo t b i); image = [] }
-answered b (Save t image) = record { number = number (saveDo t b image); image = orElse image (saveDo t b image) }
+answered b (Save t image) = record { number = number (saveDo t b image); image = gotOr image (saveDo t b image) }
 answered b (Restore t image) = record { number = number (restoreDo t b image); image = [] }
 answered b (PairRow t i buffer) = record { number = number (pairDo t b i buffer); image = [] }
 answered b (HoldRow t i) = record { number = number (holdDo t b i); image = [] }
 
 -- the book that a call leaves
 abbrev pub after : List ℕ → Call → List ℕ
-after b Fresh = orElse b (freshDo b)
+after b Fresh = gotOr b (freshDo b)
 after b (Feed t i) = feedBytes b (feedDo t b i)
 after b (Save t image) = b
-after b (Restore t image) = orElse b (restoreDo t b image)
+after b (Restore t image) = gotOr b (restoreDo t b image)
 after b (PairRow t i buffer) = b
 after b (HoldRow t i) = b
 

@@ -11,7 +11,7 @@ use lib.Dec.{eqb}
 use lib.ListN.{drop, drop-of-length-le}
 use Rattle.sheet.specs.Sheet.{Event}
 use Rattle.event.specs.Signals.{Line}
-use Rattle.event.specs.Match.{matches, firstOf, firstMatch, before}
+use Rattle.event.specs.Match.{matches, firstOf, firstMatch, preferred}
 use Rattle.event.specs.Places.{linesAt}
 use Rattle.table.specs.Layout.{countsIn, partsIn}
 use Rattle.table.specs.Table.{eventOf, sheetOf}
@@ -84,7 +84,7 @@ module _ {t s starts mids : List ℕ} {n : ℕ} where
     ok = a .ok;
   }
     where
-      go : (o : Option ℕ) → o ≡ some i → o ≡ before o (firstOf (ofNumber 1) 0 (linesAt s starts mids n) (sheetOf (partsIn t) .events))
+      go : (o : Option ℕ) → o ≡ some i → o ≡ preferred o (firstOf (ofNumber 1) 0 (linesAt s starts mids n) (sheetOf (partsIn t) .events))
       go none q = absurd (let z : _≡_ {A = ℕ} 0 1 = cc in omega arith)
       go (some x) q = refl
 

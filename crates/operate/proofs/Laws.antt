@@ -24,6 +24,18 @@ seven-chinese : length chinese ≡ 7
 unfolding chinese
 seven-chinese = refl
 
+four : (n : ℕ) → (n ≡ 0 → ⊥) → (n ≡ 1 → ⊥) → (n ≡ 2 → ⊥) → (n ≡ 3 → ⊥) → 4 ≤ n
+four n a b c d = omega arith
+
+three-more : (n : ℕ) → 4 ≤ n → (n ≡ 4 → ⊥) → (n ≡ 5 → ⊥) → (n ≡ 6 → ⊥) → 7 ≤ n
+three-more n l a b c = omega arith
+
+-- a code that is none of the seven, as the last arm of a match has it
+pub past-arms : (n : ℕ)
+    → (((((((Unit {0} × (n ≡ 0 → ⊥)) × (n ≡ 1 → ⊥)) × (n ≡ 2 → ⊥)) × (n ≡ 3 → ⊥)) × (n ≡ 4 → ⊥)) × (n ≡ 5 → ⊥)) × (n ≡ 6 → ⊥))
+    → 7 ≤ n
+past-arms n r = three-more n (four n (r .0 .0 .0 .0 .0 .0 .1) (r .0 .0 .0 .0 .0 .1) (r .0 .0 .0 .0 .1) (r .0 .0 .0 .1)) (r .0 .0 .1) (r .0 .1) (r .1)
+
 -- the name at a code that is known to be i
 pub at : (names : List (List ℕ)) (n i : ℕ) {r : List ℕ} (code : ℕ) → code ≡ i → r ≡ getD names i [] → n ≡ length r → Name (getD names code []) n r
 at names n i code e h k = record { is = rw e h; size = k }

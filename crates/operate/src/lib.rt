@@ -69,7 +69,8 @@ fn latin(code: u32) -> [u8; 2]
         3 => *b"LO",
         4 => *b"LE",
         5 => *b"SO",
-        _ => *b"SE",
+        6 => *b"SE",
+        _ => *b"  ",
     }
 }
 
@@ -85,7 +86,8 @@ pub fn to_chinese(code: u32) -> [u8; 6]
         3 => *b"\xe5\xbc\x80\xe5\xa4\x9a",
         4 => *b"\xe5\xb9\xb3\xe5\xa4\x9a",
         5 => *b"\xe5\xbc\x80\xe7\xa9\xba",
-        _ => *b"\xe5\xb9\xb3\xe7\xa9\xba",
+        6 => *b"\xe5\xb9\xb3\xe7\xa9\xba",
+        _ => *b"      ",
     }
 }
 
@@ -93,9 +95,6 @@ pub fn to_chinese(code: u32) -> [u8; 6]
 pub fn of_code(code: u32) -> OperateRead
     ensures { λ r. ⌜ readOf r ≡ known code ⌝ }
 {
-    if 6 < code {
-        return OperateRead::Unknown;
-    }
     match code {
         0 => OperateRead::Is(Operate::HL),
         1 => OperateRead::Is(Operate::HS),
@@ -103,7 +102,8 @@ pub fn of_code(code: u32) -> OperateRead
         3 => OperateRead::Is(Operate::LO),
         4 => OperateRead::Is(Operate::LE),
         5 => OperateRead::Is(Operate::SO),
-        _ => OperateRead::Is(Operate::SE),
+        6 => OperateRead::Is(Operate::SE),
+        _ => OperateRead::Unknown,
     }
 }
 

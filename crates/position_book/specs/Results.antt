@@ -3,7 +3,7 @@
 use Prim.Native.Nat.{ℕ}
 use mathlib.Core.Path.{_≡_}
 use mathlib.Core.List.{List}
-use Rattle.text.specs.Answer.{Answer, Got, _>>=_, number, orElse}
+use Rattle.text.specs.Answer.{Answer, Got, _>>=_, number, gotOr}
 use Rattle.sheet.specs.Sheet.{Sheet}
 use Rattle.table.specs.Compile.{Compiled}
 use Rattle.position.specs.Feed.{Accepted}
@@ -24,7 +24,7 @@ CompileIs d before after r = (r ≡ number d) × Compiled d before after
 
 -- fresh, save and restore
 abbrev pub StoreIs : Answer (List ℕ) → List ℕ → List ℕ → ℕ → Type 0
-StoreIs d before after r = (r ≡ number d) × (after ≡ orElse before d)
+StoreIs d before after r = (r ≡ number d) × (after ≡ gotOr before d)
 
 abbrev pub FeedIs : Answer (Accepted (List ℕ)) → List ℕ → List ℕ → FeedAnswer → Type 0
 FeedIs d before after r = (r ≡ feedAnswer d) × (after ≡ feedBytes before d)

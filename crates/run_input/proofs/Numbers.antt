@@ -14,7 +14,7 @@ use mir.Syntax.{w64}
 use mir.Val.{SFits, toZ}
 use mir.ValLaws.{toZ-pos}
 use Rattle.le.proofs.Signs.{back, step}
-use Rattle.text.specs.Number.{natural, atMost, digitsTo, plus, minus, signedTo}
+use Rattle.text.specs.Number.{natural, atMost, digitsTo, plus, negated, signedTo}
 use Rattle.text.specs.Read.{Part}
 use Rattle.text.proofs.Laws.{part-cons, part-nil, part-end}
 use Rattle.text.proofs.Digits.{decimal-few, decimal-long}
@@ -64,8 +64,8 @@ module _ {n : ℕ} (few : n ≤ 18) (l : List ℕ) {v : ℕ} (e : some v ≡ dig
   pub minus-fits : SFits w64 (pos 0 -ℤ toZ w64 v)
   minus-fits = turned .0
 
-  pub minus-is : some (back w64 (pos 0 -ℤ toZ w64 v)) ≡ minus (digitsTo n l)
-  minus-is = ap some (turned .1) ∙ ap minus e
+  pub minus-is : some (back w64 (pos 0 -ℤ toZ w64 v)) ≡ negated (digitsTo n l)
+  minus-is = ap some (turned .1) ∙ ap negated e
 
 -- ---- the sign
 
@@ -82,6 +82,6 @@ module _ {s : List ℕ} {from to : ℕ} (p : Part s from to) (n : ℕ) where
     unfolding signedTo
     signed-plain u = rw (first, signedTo, ne-eqb _ _ u)
 
-    pub signed-minus : getD s from 0 ≡ 45 → minus (digitsTo n (slice (from + 1) to s)) ≡ signedTo n (slice from to s)
+    pub signed-minus : getD s from 0 ≡ 45 → negated (digitsTo n (slice (from + 1) to s)) ≡ signedTo n (slice from to s)
     unfolding signedTo
     signed-minus e = rw (first, signedTo, e)

@@ -2,7 +2,7 @@
 use Prim.Native.Nat.{ℕ}
 use mathlib.Core.Path.{_≡_}
 use mathlib.Core.List.{List}
-use Rattle.text.specs.Answer.{Answer, Refused, Got, orElse}
+use Rattle.text.specs.Answer.{Answer, Refused, Got, gotOr}
 use Rattle.store.specs.declared.Stored.{Stored}
 use Rattle.store.specs.declared.Stored.the-variants.{Done, WrongLength, NotTable, NotBook}
 
@@ -16,4 +16,4 @@ storedOf after NotBook = Refused 10
 -- r is the answer d, and the bytes that were `before` are those that it gives, or as they were
 pub record StoredAs (d : Answer (List ℕ)) (before after : List ℕ) (r : Stored) : Type 0 where
   pub is : storedOf after r ≡ d
-  pub bytes : after ≡ orElse before d
+  pub bytes : after ≡ gotOr before d

@@ -11,14 +11,14 @@ use borrow.Author.Tests.{le-leb, lt-leb, leb-true, ne-eqb}
 use lib.Dec.{leb}
 use lib.ListN.{length, getD}
 use lib.Seq.{slice, length-slice}
-use Rattle.text.specs.Number.{within, digits, natural, atMost, digitsTo, plus, minus, i32Of}
+use Rattle.text.specs.Number.{within, digitsBehind, natural, atMost, digitsTo, plus, negated, i32Of}
 use Rattle.text.specs.Read.{Part}
 use Rattle.text.proofs.Laws.{part-cons, part-nil}
 
 -- ---- digits, one after another
 
-digits-none : (l : List ℕ) → digits none l ≡ none
-unfolding digits
+digits-none : (l : List ℕ) → digitsBehind none l ≡ none
+unfolding digitsBehind
 digits-none [] = refl
 digits-none (x ∷ t) = digits-none t
 
@@ -26,7 +26,7 @@ digits-none (x ∷ t) = digits-none t
 pub record Reading (s : List ℕ) (from to v i : ℕ) : Type 0 where
   pub left : Part s i to
   pub begun : from ≤ i
-  pub same : natural (slice from to s) ≡ digits (some v) (slice i to s)
+  pub same : natural (slice from to s) ≡ digitsBehind (some v) (slice i to s)
 
 module _ {s : List ℕ} {from to : ℕ} (p : Part s from to) where
   pub natural-none : from ≡ to → natural (slice from to s) ≡ none
@@ -39,13 +39,13 @@ module _ {s : List ℕ} {from to : ℕ} (p : Part s from to) where
 
 module _ {s : List ℕ} {from to v i : ℕ} (r : Reading s from to v i) where
   pub reading-last : to ≤ i → natural (slice from to s) ≡ some v
-  unfolding digits
+  unfolding digitsBehind
   reading-last h = r .same ∙ rw (part-nil i to s h)
 
   module _ (h : i < to) where
-    next : natural (slice from to s) ≡ digits (cond (within 48 57 (getD s i 0)) (some (v * 10 + (getD s i 0 - 48))) none) (slice (i + 1) to s)
-    unfolding digits
-    next = r .same ∙ rw (part-cons i to s h (r .left .within), digits)
+    next : natural (slice from to s) ≡ digitsBehind (cond (within 48 57 (getD s i 0)) (some (v * 10 + (getD s i 0 - 48))) none) (slice (i + 1) to s)
+    unfolding digitsBehind
+    next = r .same ∙ rw (part-cons i to s h (r .left .within), digitsBehind)
 
     pub reading-low : getD s i 0 < 48 → natural (slice from to s) ≡ none
     reading-low e = next ∙ rw (lt-leb _ _ e) (digits-none (slice (i + 1) to s))
@@ -60,12 +60,12 @@ module _ {s : List ℕ} {from to v i : ℕ} (r : Reading s from to v i) where
 -- ---- `magnitude`: any number of digits, so that the value is cut at hi
 
 -- what is past the limit stays past it
-past : (hi v : ℕ) (l : List ℕ) → hi < v → atMost hi (digits (some v) l) ≡ none
-unfolding digits
+past : (hi v : ℕ) (l : List ℕ) → hi < v → atMost hi (digitsBehind (some v) l) ≡ none
+unfolding digitsBehind
 past hi v [] h = rw (lt-leb v hi h)
 past hi v (x ∷ t) h = go (within 48 57 x) (past hi (v * 10 + (x - 48)) t (omega arith))
   where
-    go : (d : Bool) → atMost hi (digits (some (v * 10 + (x - 48))) t) ≡ none → atMost hi (digits (cond d (some (v * 10 + (x - 48))) none) t) ≡ none
+    go : (d : Bool) → atMost hi (digitsBehind (some (v * 10 + (x - 48))) t) ≡ none → atMost hi (digitsBehind (cond d (some (v * 10 + (x - 48))) none) t) ≡ none
     go true e = e
     go false e = rw (digits-none t)
 
@@ -82,8 +82,8 @@ bounded-last {hi = hi} r h = ap (atMost hi) (reading-last (r .reading) h) ∙ rw
 -- ---- `decimal`: few digits, so that nothing is cut
 
 -- a value with the digits l behind it
-digits-small : (l : List ℕ) (v w : ℕ) → digits (some v) l ≡ some w → w < (v + 1) * 10 ^ length l
-unfolding digits
+digits-small : (l : List ℕ) (v w : ℕ) → digitsBehind (some v) l ≡ some w → w < (v + 1) * 10 ^ length l
+unfolding digitsBehind
 digits-small [] v w e =
     let g : v ≡ w = cc in
     omega arith
@@ -95,8 +95,8 @@ digits-small (x ∷ t) v w e = go (leb 48 x) (leb x 57) refl (digits-small t (v 
         let g : v * 10 + d + 1 ≤ (v + 1) * 10 = omega arith in
         rw e (lt-of-lt-of-le k (mul-le-mul-right p g))
 
-    go : (a b : Bool) → leb x 57 ≡ b → (digits (some (v * 10 + (x - 48))) t ≡ some w → w < (v * 10 + (x - 48) + 1) * 10 ^ length t)
-        → digits (cond (a && b) (some (v * 10 + (x - 48))) none) t ≡ some w → w < (v + 1) * 10 ^ suc (length t)
+    go : (a b : Bool) → leb x 57 ≡ b → (digitsBehind (some (v * 10 + (x - 48))) t ≡ some w → w < (v * 10 + (x - 48) + 1) * 10 ^ length t)
+        → digitsBehind (cond (a && b) (some (v * 10 + (x - 48))) none) t ≡ some w → w < (v + 1) * 10 ^ suc (length t)
     go true true h ih k = rw (pow-suc 10 (length t)) (more (x - 48) (10 ^ length t) (omega (arith, leb-true x 57 h)) (ih k))
     go true false h ih k = absurd (let z : _≡_ {A = ℕ} 0 1 = cc (digits-none t) in omega arith)
     go false b h ih k = absurd (let z : _≡_ {A = ℕ} 0 1 = cc (digits-none t) in omega arith)
@@ -105,7 +105,7 @@ digits-small (x ∷ t) v w e = go (leb 48 x) (leb x 57) refl (digits-small t (v 
 natural-few : (l : List ℕ) → length l ≤ 18 → atMost 999999999999999999 (natural l) ≡ natural l
 unfolding natural
 natural-few [] h = refl
-natural-few (x ∷ t) h = go (digits (some 0) (x ∷ t)) (digits-small (x ∷ t) 0)
+natural-few (x ∷ t) h = go (digitsBehind (some 0) (x ∷ t)) (digits-small (x ∷ t) 0)
   where
     go : (o : Option ℕ) → ((w : ℕ) → o ≡ some w → w < (0 + 1) * 10 ^ length (x ∷ t)) → atMost 999999999999999999 o ≡ o
     go none k = refl
@@ -138,7 +138,7 @@ module _ {s : List ℕ} {from to : ℕ} (p : Part s from to) where
     first : slice from to s ≡ getD s from 0 ∷ slice (from + 1) to s
     first = part-cons from to s (omega arith) (p .within)
 
-    pub i32-minus : getD s from 0 ≡ 45 → minus (atMost 0x8000_0000 (natural (slice (from + 1) to s))) ≡ i32Of (slice from to s)
+    pub i32-minus : getD s from 0 ≡ 45 → negated (atMost 0x8000_0000 (natural (slice (from + 1) to s))) ≡ i32Of (slice from to s)
     unfolding i32Of
     i32-minus e = rw (first, i32Of, e)
 

@@ -29,6 +29,6 @@ number (Refused n) = n
 number (Got x) = 0
 
 -- what was got, or else d: a refusal leaves what was there
-abbrev pub orElse : {X : Type 0} → X → Answer X → X
-orElse d (Refused n) = d
-orElse d (Got x) = x
+abbrev pub gotOr : {X : Type 0} → X → Answer X → X
+gotOr d (Refused n) = d
+gotOr d (Got x) = x

@@ -16,14 +16,14 @@ abbrev pub digit : ℕ → Option ℕ → Option ℕ
 digit x none = none
 digit x (some v) = cond (within 48 57 x) (some (v * 10 + (x - 48))) none
 
-unfoldable pub digits : Option ℕ → List ℕ → Option ℕ
-digits v [] = v
-digits v (x ∷ t) = digits (digit x v) t
+unfoldable pub digitsBehind : Option ℕ → List ℕ → Option ℕ
+digitsBehind v [] = v
+digitsBehind v (x ∷ t) = digitsBehind (digit x v) t
 
 -- one or more decimal digits
 unfoldable pub natural : List ℕ → Option ℕ
 natural [] = none
-natural (x ∷ t) = digits (some 0) (x ∷ t)
+natural (x ∷ t) = digitsBehind (some 0) (x ∷ t)
 
 -- a number that is not above hi
 abbrev pub atMost : ℕ → Option ℕ → Option ℕ
@@ -42,21 +42,21 @@ abbrev pub plus : Option ℕ → Option ℤ
 plus none = none
 plus (some v) = some (pos v)
 
-abbrev pub minus : Option ℕ → Option ℤ
-minus none = none
-minus (some v) = some (negℤ (pos v))
+abbrev pub negated : Option ℕ → Option ℤ
+negated none = none
+negated (some v) = some (negℤ (pos v))
 
 -- "an optional + or -, then one or more digits, fitting i32"
 unfoldable pub i32Of : List ℕ → Option ℤ
 i32Of [] = none
 i32Of (x ∷ t) =
     cond (eqb x 43) (plus (atMost 0x7fff_ffff (natural t)))
-    (cond (eqb x 45) (minus (atMost 0x8000_0000 (natural t))) (plus (atMost 0x7fff_ffff (natural (x ∷ t)))))
+    (cond (eqb x 45) (negated (atMost 0x8000_0000 (natural t))) (plus (atMost 0x7fff_ffff (natural (x ∷ t)))))
 
 -- 1 to n decimal digits, "perhaps after `-`"
 unfoldable pub signedTo : ℕ → List ℕ → Option ℤ
 signedTo n [] = none
-signedTo n (x ∷ t) = cond (eqb x 45) (minus (digitsTo n t)) (plus (digitsTo n (x ∷ t)))
+signedTo n (x ∷ t) = cond (eqb x 45) (negated (digitsTo n t)) (plus (digitsTo n (x ∷ t)))
 
 -- plain decimal: n has at most k digits, written in front of l
 unfoldable pub decimalFrom : ℕ → ℕ → List ℕ → List ℕ

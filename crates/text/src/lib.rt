@@ -7,7 +7,7 @@ ghost use Prim.Native.Nat.{_+_, _-_, _^_, _<_, _≤_};
 ghost use lib.ListN.{length, replicate};
 ghost use lib.Seq.{slice};
 ghost use Rattle.text.specs.Text.{same, has, split};
-ghost use Rattle.text.specs.Number.{natural, atMost, plus, minus, digitsTo, i32Of, decimalOf, hexDigit, hexOf, hexValue, bitsOf};
+ghost use Rattle.text.specs.Number.{natural, atMost, plus, negated, digitsTo, i32Of, decimalOf, hexDigit, hexOf, hexValue, bitsOf};
 ghost use Rattle.text.specs.Read.{Part, FirstAt, Put, numberOf, intOf};
 
 // What ends a line, and what stands between fields and between parts.
@@ -143,7 +143,7 @@ fn positive(m: Number) -> Int
 }
 
 fn negative(m: Number) -> Int
-    ensures { λ r. ⌜ intOf r ≡ minus (numberOf m) ⌝ }
+    ensures { λ r. ⌜ intOf r ≡ negated (numberOf m) ⌝ }
 {
     match m {
         Number::Is(v) => Int::Minus(v),

@@ -14,7 +14,7 @@ use lib.Seq.{drop-cons}
 use lib.ListN.{length, getD, drop, replicate, drop-of-length-le}
 use Rattle.text.specs.Answer.{Refused, _>>=_, must}
 use Rattle.text.specs.Text.{has, LF, pipe}
-use Rattle.utf8.specs.Utf8.{Range, to, inside, tail, after, step, right, utf8}
+use Rattle.utf8.specs.Utf8.{Range, to, inside, utf8Tail, after, step, right, utf8}
 use Rattle.utf8.specs.Alone.{textLimit, text, alone}
 use Rattle.utf8.specs.Read.{Read, Passed, CharAt}
 use Rattle.utf8.specs.declared.Char.{Char}
@@ -38,22 +38,22 @@ module _ (b : ℕ) where
   unfolding after
   after-ascii h = rw (among 0x00 0x7f b (omega arith) h)
 
-  pub after-two : 0xc2 ≤ b → b ≤ 0xdf → after b ≡ some (tail ∷ [])
+  pub after-two : 0xc2 ≤ b → b ≤ 0xdf → after b ≡ some (utf8Tail ∷ [])
   unfolding after
   after-two h k = rw (above 0x00 0x7f b (omega arith), among 0xc2 0xdf b h k)
 
   past-two : 0xe0 < b → after b ≡
-      cond (inside (to 0xe1 0xec) b) (some (tail ∷ tail ∷ []))
-      (cond (inside (to 0xed 0xed) b) (some (to 0x80 0x9f ∷ tail ∷ []))
-      (cond (inside (to 0xee 0xef) b) (some (tail ∷ tail ∷ []))
-      (cond (inside (to 0xf0 0xf0) b) (some (to 0x90 0xbf ∷ tail ∷ tail ∷ []))
-      (cond (inside (to 0xf1 0xf3) b) (some (tail ∷ tail ∷ tail ∷ []))
-      (cond (inside (to 0xf4 0xf4) b) (some (to 0x80 0x8f ∷ tail ∷ tail ∷ []))
+      cond (inside (to 0xe1 0xec) b) (some (utf8Tail ∷ utf8Tail ∷ []))
+      (cond (inside (to 0xed 0xed) b) (some (to 0x80 0x9f ∷ utf8Tail ∷ []))
+      (cond (inside (to 0xee 0xef) b) (some (utf8Tail ∷ utf8Tail ∷ []))
+      (cond (inside (to 0xf0 0xf0) b) (some (to 0x90 0xbf ∷ utf8Tail ∷ utf8Tail ∷ []))
+      (cond (inside (to 0xf1 0xf3) b) (some (utf8Tail ∷ utf8Tail ∷ utf8Tail ∷ []))
+      (cond (inside (to 0xf4 0xf4) b) (some (to 0x80 0x8f ∷ utf8Tail ∷ utf8Tail ∷ []))
       none)))))
   unfolding after
   past-two h = rw (above 0x00 0x7f b (omega arith), above 0xc2 0xdf b (omega arith), above 0xe0 0xe0 b h)
 
-  pub after-three : 0xe0 < b → b ≢ 0xed → b ≤ 0xef → after b ≡ some (tail ∷ tail ∷ [])
+  pub after-three : 0xe0 < b → b ≢ 0xed → b ≤ 0xef → after b ≡ some (utf8Tail ∷ utf8Tail ∷ [])
   after-three h e k =
       past-two h
       ∙ elim (decLe b 0xec) [
@@ -61,14 +61,14 @@ module _ (b : ℕ) where
         | no l ↦ rw (above 0xe1 0xec b (omega arith), above 0xed 0xed b (omega arith), among 0xee 0xef b (omega arith) k)
       ]
 
-  past-three : 0xf0 < b → after b ≡ cond (inside (to 0xf1 0xf3) b) (some (tail ∷ tail ∷ tail ∷ []))
-      (cond (inside (to 0xf4 0xf4) b) (some (to 0x80 0x8f ∷ tail ∷ tail ∷ []))
+  past-three : 0xf0 < b → after b ≡ cond (inside (to 0xf1 0xf3) b) (some (utf8Tail ∷ utf8Tail ∷ utf8Tail ∷ []))
+      (cond (inside (to 0xf4 0xf4) b) (some (to 0x80 0x8f ∷ utf8Tail ∷ utf8Tail ∷ []))
       none)
   past-three h =
       past-two (omega arith)
       ∙ rw (above 0xe1 0xec b (omega arith), above 0xed 0xed b (omega arith), above 0xee 0xef b (omega arith), above 0xf0 0xf0 b h)
 
-  pub after-four : 0xf0 < b → b ≤ 0xf3 → after b ≡ some (tail ∷ tail ∷ tail ∷ [])
+  pub after-four : 0xf0 < b → b ≤ 0xf3 → after b ≡ some (utf8Tail ∷ utf8Tail ∷ utf8Tail ∷ [])
   after-four h k = past-three h ∙ rw (among 0xf1 0xf3 b h k)
 
   pub after-over : 0xf4 < b → after b ≡ none
@@ -151,9 +151,9 @@ module _ {s : List ℕ} {i : ℕ} {whole : Bool} {lo hi : ℕ} {xs : List Range}
     unfolding step
     range-among k l = read-byte r (some xs) h (rw (among lo hi (getD s j 0) k l))
 
-module _ {s : List ℕ} {i : ℕ} {whole : Bool} {k j : ℕ} (r : Read s i whole (some (replicate k tail)) j) where
+module _ {s : List ℕ} {i : ℕ} {whole : Bool} {k j : ℕ} (r : Read s i whole (some (replicate k utf8Tail)) j) where
   -- where tails are to come, the first is one
-  pub tails-some : 0 < k → Read s i whole (some (tail ∷ replicate (k - 1) tail)) j
+  pub tails-some : 0 < k → Read s i whole (some (utf8Tail ∷ replicate (k - 1) utf8Tail)) j
   tails-some h =
       let e : k ≡ suc (k - 1) = omega arith in
       rw e at r

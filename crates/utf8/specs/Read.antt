@@ -6,7 +6,7 @@ use mathlib.Core.List.{List, [], _∷_}
 use mathlib.Core.Option.{Option, some}
 use lib.ListN.{length, drop, replicate}
 use Rattle.text.specs.Answer.{Answer, Refused, Got}
-use Rattle.utf8.specs.Utf8.{Range, to, tail, right}
+use Rattle.utf8.specs.Utf8.{Range, to, utf8Tail, right}
 use Rattle.utf8.specs.declared.Need.{Need}
 use Rattle.utf8.specs.declared.Char.{Char}
 use Rattle.utf8.specs.declared.Char.the-variants.{Next, Wrong}
@@ -15,7 +15,7 @@ use Rattle.utf8.specs.declared.Alone.the-variants.{Fine, TooLong, NotUtf
 
 -- a byte in lo..hi and `more` tails are to come
 abbrev pub asks : ℕ → ℕ → ℕ → Option (List Range)
-asks lo hi more = some (to lo hi ∷ replicate more tail)
+asks lo hi more = some (to lo hi ∷ replicate more utf8Tail)
 
 abbrev pub ranges : Need → Option (List Range)
 ranges n = asks (n .lo) (n .hi) (n .more)

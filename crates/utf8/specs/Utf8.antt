@@ -17,21 +17,21 @@ abbrev pub inside : Range → ℕ → Bool
 inside r b = within (r .lo) (r .hi) b
 
 -- UTF8-tail
-abbrev pub tail : Range
-tail = to 0x80 0xbf
+abbrev pub utf8Tail : Range
+utf8Tail = to 0x80 0xbf
 
 -- what must follow a first byte, or nothing where no character starts with it
 unfoldable pub after : ℕ → Option (List Range)
 after b =
     cond (inside (to 0x00 0x7f) b) (some [])
-    (cond (inside (to 0xc2 0xdf) b) (some (tail ∷ []))
-    (cond (inside (to 0xe0 0xe0) b) (some (to 0xa0 0xbf ∷ tail ∷ []))
-    (cond (inside (to 0xe1 0xec) b) (some (tail ∷ tail ∷ []))
-    (cond (inside (to 0xed 0xed) b) (some (to 0x80 0x9f ∷ tail ∷ []))
-    (cond (inside (to 0xee 0xef) b) (some (tail ∷ tail ∷ []))
-    (cond (inside (to 0xf0 0xf0) b) (some (to 0x90 0xbf ∷ tail ∷ tail ∷ []))
-    (cond (inside (to 0xf1 0xf3) b) (some (tail ∷ tail ∷ tail ∷ []))
-    (cond (inside (to 0xf4 0xf4) b) (some (to 0x80 0x8f ∷ tail ∷ tail ∷ []))
+    (cond (inside (to 0xc2 0xdf) b) (some (utf8Tail ∷ []))
+    (cond (inside (to 0xe0 0xe0) b) (some (to 0xa0 0xbf ∷ utf8Tail ∷ []))
+    (cond (inside (to 0xe1 0xec) b) (some (utf8Tail ∷ utf8Tail ∷ []))
+    (cond (inside (to 0xed 0xed) b) (some (to 0x80 0x9f ∷ utf8Tail ∷ []))
+    (cond (inside (to 0xee 0xef) b) (some (utf8Tail ∷ utf8Tail ∷ []))
+    (cond (inside (to 0xf0 0xf0) b) (some (to 0x90 0xbf ∷ utf8Tail ∷ utf8Tail ∷ []))
+    (cond (inside (to 0xf1 0xf3) b) (some (utf8Tail ∷ utf8Tail ∷ utf8Tail ∷ []))
+    (cond (inside (to 0xf4 0xf4) b) (some (to 0x80 0x8f ∷ utf8Tail ∷ utf8Tail ∷ []))
     none))))))))
 
 -- the ranges still to come after one byte more

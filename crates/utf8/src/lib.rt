@@ -7,7 +7,7 @@ ghost use mathlib.Core.Bool.{true};
 ghost use mathlib.Core.Option.{some};
 ghost use Prim.Native.Nat.{_+_, _<_, _≤_};
 ghost use lib.ListN.{length, getD, drop, replicate};
-ghost use Rattle.utf8.specs.Utf8.{tail, after, right, utf8};
+ghost use Rattle.utf8.specs.Utf8.{utf8Tail, after, right, utf8};
 ghost use Rattle.utf8.specs.Alone.{alone};
 ghost use Rattle.utf8.specs.Read.{asks, ranges, Passed, CharAt, aloneOf};
 ghost use Rattle.utf8.specs.Common.{Tail, Start, Behind, Larger, ZeroFor};
@@ -79,7 +79,7 @@ fn follow(b: u8) -> Need
 // Takes `more` tails from i on.
 fn tails(s: &[u8], i: usize, more: u8) -> Char
     requires { ⌜ i ≤ length (now s) ⌝ }
-    ensures { λ r. ⌜ CharAt (now (s .entry)) i (right (some (replicate more tail)) (drop i (now (s .entry)))) r ⌝ }
+    ensures { λ r. ⌜ CharAt (now (s .entry)) i (right (some (replicate more utf8Tail)) (drop i (now (s .entry)))) r ⌝ }
 {
     let mut j = i;
     let mut k = more;

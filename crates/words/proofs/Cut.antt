@@ -13,7 +13,7 @@ use lib.Seq.{drop-cons, drop-drop}
 use Rattle.le.specs.Le.{part}
 use Rattle.text.specs.Text.{has, LF, pipe}
 use Rattle.text.specs.Conditions.{allOf}
-use Rattle.utf8.specs.Utf8.{Range, inside, tail, after, step, right, utf8}
+use Rattle.utf8.specs.Utf8.{Range, inside, utf8Tail, after, step, right, utf8}
 use Rattle.utf8.proofs.Laws.{above, below, among, after-under, right-none}
 use Rattle.utf8.proofs.Joined.{utf8-join}
 use Rattle.words.specs.Words.{clean}
@@ -64,7 +64,7 @@ tailing-step (some []) b h = tailing-after b
 tailing-step (some (r ∷ rs)) b h = rw (tailing-cond, and-eq-true-iff (leb 0x80 (r .lo) && leb (r .hi) 0xbf) (tailing (some rs)) .0 h .1, cond-same)
 
 -- a byte in a range of tails is a tail
-tailed : (r : Range) (b : ℕ) → (leb 0x80 (r .lo) && leb (r .hi) 0xbf) ≡ true → inside tail b ≡ false → inside r b ≡ false
+tailed : (r : Range) (b : ℕ) → (leb 0x80 (r .lo) && leb (r .hi) 0xbf) ≡ true → inside utf8Tail b ≡ false → inside r b ≡ false
 tailed r b h k = go (inside r b) refl
   where
     go : (t : Bool) → inside r b ≡ t → t ≡ false
@@ -88,7 +88,7 @@ right-cut none [] b h e k = absurd (false≢true (sym (right-none b) ∙ e))
 right-cut (some []) [] b h e k = refl
 right-cut (some (r ∷ rs)) [] [] h e k = e
 right-cut (some (r ∷ rs)) [] (x ∷ l) h e k =
-    let n = tailed r x (and-eq-true-iff _ (tailing (some rs)) .0 h .0) (not-false (inside tail x) k) in
+    let n = tailed r x (and-eq-true-iff _ (tailing (some rs)) .0 h .0) (not-false (inside utf8Tail x) k) in
     absurd (false≢true (sym (ap (λ t. right (cond t (some rs) none) l) n ∙ right-none l) ∙ e))
 right-cut st (x ∷ a) b h e k = right-cut (step st x) a b (tailing-step st x h) e k
 

@@ -7,7 +7,7 @@ use lib.Dec.{leb, eqb}
 use lib.ListN.{length, drop}
 use Rattle.text.specs.Text.{same, has, LF, pipe, underscore}
 use Rattle.text.specs.Conditions.{allOf, every}
-use Rattle.utf8.specs.Utf8.{inside, tail}
+use Rattle.utf8.specs.Utf8.{inside, utf8Tail}
 use Rattle.words.specs.Words.{isWild, less}
 use Rattle.words.specs.declared.Order.{Order}
 use Rattle.words.specs.declared.Order.the-variants.{Less, Same, More}
@@ -22,7 +22,7 @@ fit n ps = allOf (leb (length ps) n ∷ every (λ p. not (isWild p)) ps ∷ [])
 -- a text may be cut in front of l: no tail of a character stands there
 abbrev pub isCut : List ℕ → Bool
 isCut [] = true
-isCut (b ∷ l) = not (inside tail b)
+isCut (b ∷ l) = not (inside utf8Tail b)
 
 -- the wildcard's second and third byte, and whether they stand side by side in a text
 abbrev pub isPair : ℕ → ℕ → Bool
@@ -34,14 +34,14 @@ paired (a ∷ []) = false
 paired (a ∷ b ∷ l) = isPair a b || paired (b ∷ l)
 
 -- how often x stands in a text
-unfoldable pub count : ℕ → List ℕ → ℕ
-count x [] = 0
-count x (y ∷ l) = cond (eqb y x) 1 0 + count x l
+unfoldable pub occurrences : ℕ → List ℕ → ℕ
+occurrences x [] = 0
+occurrences x (y ∷ l) = cond (eqb y x) 1 0 + occurrences x l
 
 -- r underscores stand before i; or, where they are not fewer than limit, the text has so many
 pub record Counted (s : List ℕ) (i limit r : ℕ) : Type 0 where
-  pub few : r < limit → count underscore s ≡ r + count underscore (drop i s)
-  pub many : limit ≤ r → limit ≤ count underscore s
+  pub few : r < limit → occurrences underscore s ≡ r + occurrences underscore (drop i s)
+  pub many : limit ≤ r → limit ≤ occurrences underscore s
 
 -- how a stands to b
 unfoldable pub orderOf : List ℕ → List ℕ → Order

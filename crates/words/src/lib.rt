@@ -11,7 +11,7 @@ ghost use lib.Dec.{ltb, eqb};
 ghost use lib.ListN.{length, drop};
 ghost use Rattle.text.specs.Text.{has, split, underscore};
 ghost use Rattle.words.specs.Words.{clean};
-ghost use Rattle.words.specs.Read.{plain, isCut, fit, isPair, paired, count, Counted, orderOf, Level};
+ghost use Rattle.words.specs.Read.{plain, isCut, fit, isPair, paired, occurrences, Counted, orderOf, Level};
 
 // How one text stands to another, byte by byte.
 pub enum Order {
@@ -116,7 +116,7 @@ fn one(b: u8) -> u8
 // How many of the eight bytes of s from i on are underscores: the loop has no way out before the end, so that the compiler looks at them at once.
 fn count_block(s: &[u8], i: usize) -> usize
     requires { ⌜ i + 8 ≤ length (now s) ⌝ }
-    ensures { λ r. ⌜ (r ≤ 8) × (count underscore (drop i (now (s .entry))) ≡ r + count underscore (drop (i + 8) (now (s .entry)))) ⌝ }
+    ensures { λ r. ⌜ (r ≤ 8) × (occurrences underscore (drop i (now (s .entry))) ≡ r + occurrences underscore (drop (i + 8) (now (s .entry)))) ⌝ }
 {
     let mut c: u8 = 0;
     let mut k: usize = 0;
@@ -148,7 +148,7 @@ fn count_blocks(s: &[u8], n: usize, limit: usize) -> usize
 fn few_behind(s: &[u8], i: usize, c: usize, limit: usize) -> bool
     requires { ⌜ i ≤ length (now s) ⌝ }
     requires { ⌜ c < limit ⌝ }
-    ensures { λ r. ⌜ r ≡ ltb (c + count underscore (drop i (now (s .entry)))) limit ⌝ }
+    ensures { λ r. ⌜ r ≡ ltb (c + occurrences underscore (drop i (now (s .entry)))) limit ⌝ }
 {
     let n = s.len();
     let mut d = c;

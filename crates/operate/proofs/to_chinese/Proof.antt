@@ -3,7 +3,7 @@ use native.Mathlib.Omega.{arith}
 use mathlib.Core.Path.{refl}
 use Rattle.text.specs.Literal.{bytes, encoded}
 use Rattle.operate.specs.Operate.{chinese}
-use Rattle.operate.proofs.Laws.{at}
+use Rattle.operate.proofs.Laws.{past-arms, at}
 use Rattle.operate.proofs.to_chinese.Statement.{statement}
 use Rattle.operate.proofs.to_chinese.Tie as tie
 
@@ -18,4 +18,5 @@ to-chinese-spec =
     (λ c. at chinese 6 3 (c .before .before .before .args .code) (c .before .before .match .keys4) refl refl)
     (λ c. at chinese 6 4 (c .before .before .before .args .code) (c .before .before .match .keys5) refl refl)
     (λ c. at chinese 6 5 (c .before .before .before .args .code) (c .before .before .match .keys6) refl refl)
-    (λ c. at chinese 6 6 (c .before .before .before .args .code) (omega arith) refl refl))
+    (λ c. at chinese 6 6 (c .before .before .before .args .code) (c .before .before .match .keys7) refl refl)
+    (λ c. absurd (omega (arith, past-arms (c .before .before .before .args .code) (c .before .before .match .rest)))))

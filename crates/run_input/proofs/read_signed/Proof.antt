@@ -3,7 +3,7 @@ use Prim.Native.Nat.{_+_}
 use mathlib.Core.Option.{some}
 use mathlib.Core.Path.{_≡_, _∙_, sym, ap}
 use lib.Seq.{slice}
-use Rattle.text.specs.Number.{digitsTo, minus}
+use Rattle.text.specs.Number.{digitsTo, negated}
 use Rattle.text.specs.Read.{numberOf}
 use Rattle.run_input.proofs.Numbers.{plain-fits, minus-fits, minus-is, signed-none, signed-plain, signed-minus}
 use borrow.Author.Needs.{needs}
@@ -26,7 +26,7 @@ returns-3 : tie.Need-returns-3
 returns-3 c =
     let v = c .before .before .before in
     let t = v .before .before in
-    ap minus (sym (ap numberOf (c .enum-told .given .1)) ∙ c .before .before .decimal .ensures)
+    ap negated (sym (ap numberOf (c .enum-told .given .1)) ∙ c .before .before .decimal .ensures)
     ∙ signed-minus (t .before .before .pre .0) (t .before .before .args .n) (t .if1 .left) (v .if2 .left)
 
 cast-t11 : tie.Need-cast-t11

@@ -1,6 +1,6 @@
 -- `text::read_i32` meets its contract: one law for each first byte. Assumes nothing.
 use mathlib.Core.Path.{ap, _∙_}
-use Rattle.text.specs.Number.{plus, minus}
+use Rattle.text.specs.Number.{plus, negated}
 use Rattle.text.proofs.Digits.{i32-none, i32-plus, i32-minus, i32-digits}
 use borrow.Author.Needs.{needs}
 use Rattle.text.proofs.read_i32.Statement.{statement}
@@ -12,7 +12,7 @@ returns c = i32-none (c .before .before .pre) (c .if1 .taken)
 returns-2 : tie.Need-returns-2
 returns-2 c =
     let b = c .before .before in
-    c .negative .ensures ∙ ap minus (c .before .magnitude .ensures) ∙ i32-minus (b .before .before .before .before .pre) (b .before .before .if1 .left) (b .if2 .taken)
+    c .negative .ensures ∙ ap negated (c .before .magnitude .ensures) ∙ i32-minus (b .before .before .before .before .pre) (b .before .before .if1 .left) (b .if2 .taken)
 
 returns-3 : tie.Need-returns-3
 returns-3 c =

@@ -1,7 +1,7 @@
 -- `utf8::tails` meets its contract. The loop has read i..j, and k tails are still to come. Assumes nothing.
 use Rattle.utf8.proofs.Laws.{read-start, tails-some, tails-none, range-cut, range-below, range-above, range-among}
 use Rattle.utf8.specs.Read.{Read}
-use Rattle.utf8.specs.Utf8.{tail, right}
+use Rattle.utf8.specs.Utf8.{utf8Tail, right}
 use native.Mathlib.Omega.{arith}
 use mathlib.Core.Option.{some}
 use lib.ListN.{drop, replicate}
@@ -10,7 +10,7 @@ use Rattle.utf8.proofs.tails.Statement.{statement}
 use Rattle.utf8.proofs.tails.Tie as tie
 
 abbrev Inv-loop : tie.InvT-loop
-Inv-loop s i more j₀ k₀ j k = Read s i (right (some (replicate more tail)) (drop i s)) (some (replicate k tail)) j
+Inv-loop s i more j₀ k₀ j k = Read s i (right (some (replicate more utf8Tail)) (drop i s)) (some (replicate k utf8Tail)) j
 
 abbrev μ-loop : tie.MeasureT-loop
 μ-loop s i more j₀ k₀ j k = k
