@@ -15,6 +15,7 @@ use Rattle.text.specs.Text.{pipe}
 use Rattle.text.specs.Read.{Part, FirstAt}
 use Rattle.text.proofs.Laws.{part-size}
 use Rattle.text.proofs.Parts.{split-some, split-next, split-last}
+use Rattle.utf8.specs.Alone.{textLimit}
 use Rattle.signal.specs.Signal.{signalOf}
 use Rattle.signal.specs.Read.{SignalOk, signalIn, ReadAs}
 use Rattle.signal.specs.declared.SignalAt.{SignalAt}
@@ -24,7 +25,7 @@ use Rattle.sheet.specs.Read.{clauseLine}
 use Rattle.sheet.specs.Places.{fieldsOf, eventNumber, SheetOk}
 use Rattle.sheet.specs.declared.SheetAt.{SheetAt}
 use Rattle.sheet.specs.declared.SheetRead.the-variants.{Is, PastLimit, Malformed, NotSeven, BadScore}
-use Rattle.sheet_numbers.specs.Counted.{counted}
+use Rattle.sheet_numbers.specs.Counted.{counted, Narrow}
 use Rattle.sheet_numbers.proofs.Counts.{event-total, clause-total}
 use Rattle.sheet_numbers.proofs.MoreClauses.{clause-added, clause-ok, ClauseNumbers}
 use Rattle.sheet_clause.specs.Line.{ClauseLineAs}
@@ -48,6 +49,18 @@ module _ (n : ℕ) (l : List ℕ) {g : SignalAt} (k : SignalOk (take n l) g) whe
     v2-v3 = k .v2-v3;
     within = omega (arith, k .within, length-take n l);
     low = k .low;
+  }
+
+  -- where the text is not past its limit
+  pub narrow : n ≤ textLimit → Narrow g
+  narrow h = record {
+    k1 = omega (arith, near);
+    k2 = omega (arith, near);
+    k3 = omega (arith, near);
+    v1 = omega (arith, near);
+    v2 = omega (arith, near);
+    v3 = omega (arith, near);
+    score = omega (arith, k .low);
   }
 
 -- ---- the line

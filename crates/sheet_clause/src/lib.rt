@@ -12,6 +12,7 @@ ghost use mathlib.Core.Path.{_≡_};
 ghost use Prim.Native.Nat.{_≤_};
 ghost use lib.ListN.{length};
 ghost use Rattle.text.specs.Read.{Part};
+ghost use Rattle.utf8.specs.Alone.{textLimit};
 ghost use Rattle.sheet.specs.Places.{SheetOk};
 ghost use Rattle.sheet_clause.specs.Line.{ClauseLineAs};
 
@@ -20,13 +21,13 @@ pub fn clause_line(
     s: &[u8],
     from: usize,
     to: usize,
-    kind: usize,
+    kind: u16,
     a: SheetAt,
-    events: &mut [usize],
-    clauses: &mut [usize],
+    events: &mut [u16],
+    clauses: &mut [u16],
 ) -> SheetRead
     requires { ⌜ Part (now s) from to ⌝ }
-    requires { ⌜ (length (now events) ≡ 192) × (length (now clauses) ≡ 2304) × (kind ≤ 2) ⌝ }
+    requires { ⌜ (length (now events) ≡ 192) × (length (now clauses) ≡ 2304) × (kind ≤ 2) × (length (now s) ≤ textLimit) ⌝ }
     requires { ⌜ SheetOk (now s) (now events) (now clauses) a ⌝ }
     ensures { λ r. ⌜ ClauseLineAs (now (s .entry)) from to kind a (now (events .entry)) (now (clauses .entry)) (now (events .exit)) (now (clauses .exit)) r ⌝ }
 {
@@ -43,7 +44,7 @@ pub fn clause_line(
             if CLAUSE_LIMIT <= m {
                 return SheetRead::PastLimit;
             }
-            put_clause(clauses, m, kind, from, g);
+            put_clause(clauses, m, kind, from as u16, g);
             more_clauses(events, n - 1);
             SheetRead::Is(with_counts(a, n, m + 1))
         }

@@ -14,6 +14,7 @@ ghost use mathlib.Core.Path.{_≡_};
 ghost use Prim.Native.Nat.{_≤_};
 ghost use lib.ListN.{length};
 ghost use Rattle.text.specs.Read.{Part};
+ghost use Rattle.utf8.specs.Alone.{textLimit};
 ghost use Rattle.sheet_event.specs.Line.{EventLineAs};
 
 // An event line of a kind, 0 opening or 1 exit, whose fields behind the tag are from..to.
@@ -21,12 +22,12 @@ pub fn event_line(
     s: &[u8],
     from: usize,
     to: usize,
-    kind: usize,
+    kind: u16,
     a: SheetAt,
-    events: &mut [usize],
+    events: &mut [u16],
 ) -> SheetRead
     requires { ⌜ Part (now s) from to ⌝ }
-    requires { ⌜ (length (now events) ≡ 192) × (a .events ≤ 32) × (kind ≤ 1) ⌝ }
+    requires { ⌜ (length (now events) ≡ 192) × (a .events ≤ 32) × (kind ≤ 1) × (a .clauses ≤ 256) × (length (now s) ≤ textLimit) ⌝ }
     ensures { λ r. ⌜ EventLineAs (now (s .entry)) from to kind a (now (events .entry)) (now (events .exit)) r ⌝ }
 {
     let n = a.events;
@@ -51,6 +52,6 @@ pub fn event_line(
     if EVENT_LIMIT <= n {
         return SheetRead::PastLimit;
     }
-    put_event(events, n, kind, o.code() as usize, b + 1, len, m);
+    put_event(events, n, kind, o.code() as u16, b + 1, len, m);
     SheetRead::Is(with_counts(a, n + 1, m))
 }

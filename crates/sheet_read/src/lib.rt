@@ -12,6 +12,7 @@ ghost use mathlib.Core.Path.{_≡_};
 ghost use Prim.Native.Nat.{_≤_};
 ghost use lib.ListN.{length};
 ghost use Rattle.text.specs.Read.{Part};
+ghost use Rattle.utf8.specs.Alone.{textLimit};
 ghost use Rattle.sheet.specs.Places.{SheetOk, SheetAs};
 ghost use Rattle.sheet_read.specs.Lines.{LineAs, LinesAs};
 
@@ -21,11 +22,11 @@ fn later_line(
     from: usize,
     to: usize,
     a: SheetAt,
-    events: &mut [usize],
-    clauses: &mut [usize],
+    events: &mut [u16],
+    clauses: &mut [u16],
 ) -> SheetRead
     requires { ⌜ Part (now s) from to ⌝ }
-    requires { ⌜ (length (now events) ≡ 192) × (length (now clauses) ≡ 2304) ⌝ }
+    requires { ⌜ (length (now events) ≡ 192) × (length (now clauses) ≡ 2304) × (length (now s) ≤ textLimit) ⌝ }
     requires { ⌜ SheetOk (now s) (now events) (now clauses) a ⌝ }
     ensures { λ r. ⌜ LineAs (now (s .entry)) from to a (now (events .entry)) (now (clauses .entry)) (now (events .exit)) (now (clauses .exit)) r ⌝ }
 {
@@ -52,11 +53,11 @@ fn later_lines(
     s: &[u8],
     from: usize,
     a: SheetAt,
-    events: &mut [usize],
-    clauses: &mut [usize],
+    events: &mut [u16],
+    clauses: &mut [u16],
 ) -> SheetRead
     requires { ⌜ from ≤ length (now s) ⌝ }
-    requires { ⌜ (length (now events) ≡ 192) × (length (now clauses) ≡ 2304) ⌝ }
+    requires { ⌜ (length (now events) ≡ 192) × (length (now clauses) ≡ 2304) × (length (now s) ≤ textLimit) ⌝ }
     requires { ⌜ SheetOk (now s) (now events) (now clauses) a ⌝ }
     ensures { λ r. ⌜ LinesAs (now (s .entry)) from a (now (events .entry)) (now (clauses .entry)) (now (events .exit)) (now (clauses .exit)) r ⌝ }
 {
@@ -80,7 +81,7 @@ fn later_lines(
 
 // The sheet that s is, or the first reason to refuse it. The numbers of its events and of its clauses are written to what is lent, which has
 // room for 32 events and 256 clauses.
-pub fn read_sheet(s: &[u8], events: &mut [usize], clauses: &mut [usize]) -> SheetRead
+pub fn read_sheet(s: &[u8], events: &mut [u16], clauses: &mut [u16]) -> SheetRead
     requires { ⌜ (length (now events) ≡ 192) × (length (now clauses) ≡ 2304) ⌝ }
     ensures { λ r. ⌜ SheetAs (now (s .entry)) (now (events .exit)) (now (clauses .exit)) r ⌝ }
 {

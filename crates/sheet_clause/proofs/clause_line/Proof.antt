@@ -2,10 +2,11 @@
 use Prim.Native.Nat.{_-_}
 use native.Mathlib.Omega.{arith}
 use mathlib.Core.Path.{subst}
+use lib.ListN.{drop}
 use borrow.Author.Needs.{needs}
 use Rattle.signal.specs.Read.{ReadAs}
 use Rattle.sheet_numbers.proofs.Counts.{span-within}
-use Rattle.sheet_clause.proofs.ClauseLine.{two-fields, no-event, not-seven, bad-score, no-room, clause-is}
+use Rattle.sheet_clause.proofs.ClauseLine.{two-fields, no-event, not-seven, bad-score, no-room, clause-is, narrow}
 use Rattle.sheet_clause.proofs.clause_line.Statement.{statement}
 use Rattle.sheet_clause.proofs.clause_line.Tie as tie
 
@@ -24,6 +25,14 @@ returns-3 c =
     let v = c .before .before .before .before .before .before in
     let t = v .before .before .before .before .before .before in
     no-room (t .pre .1 .1) (t .pre .0) (t .args .kind) (v .before .before .find .ensures) (v .before .if1 .left) (v .if2 .left) (subst (ReadAs _) (c .before .before .g .given .1) (c .before .before .before .before .from-str .ensures)) (c .if3 .taken)
+
+put-clause-requires : tie.Need-put-clause-requires
+put-clause-requires c κs =
+    let t = c .before .before .before .before .before .before .before .before .before .before .before .before .before in
+    let a = t .args in
+    let p = t .pre in
+    let r = subst (ReadAs _) (c .before .before .before .g .given .1) (c .before .before .before .before .before .from-str .ensures) in
+    (omega (arith, p .1 .0 .1, c .before .if3 .left), narrow (a .to - a .from) (drop (a .from) (a .s .now)) (r .ok) (omega (arith, p .0 .within, p .1 .0 .3)))
 
 more-clauses-requires : tie.Need-more-clauses-requires
 more-clauses-requires c κs =
@@ -65,7 +74,8 @@ clause-line-spec =
     (λ c κs. search needs)
     (λ c. search needs)
     returns-3
-    (λ c κs. search needs)
+    (λ c. search needs)
+    put-clause-requires
     (λ c. search needs)
     more-clauses-requires
     (λ c. search needs)

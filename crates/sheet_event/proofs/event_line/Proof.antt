@@ -1,4 +1,5 @@
 -- Two fields, in a place where the event may stand; then an operate, a name that fits, and six numbers. Assumes nothing.
+use native.Mathlib.Omega.{arith}
 use mathlib.Core.Path.{_≡_, _∙_, sym, ap}
 use borrow.Author.Tests.{not-true, not-false}
 use lib.Seq.{slice}
@@ -63,6 +64,9 @@ returns-6 c =
     let w = c .before .before in
     no-room (fields (w .before .before .before .before .before)) (operate w) (c .before .if4 .left) (c .if5 .taken)
 
+cast-put-event : tie.Need-cast-put-event
+cast-put-event c = omega (arith, c .code .ensures, code-low (c .before .before .before .before .before .o .given .0 .0))
+
 returns-7 : tie.Need-returns-7
 returns-7 c =
     let u = c .before .before .before .before .before .before in
@@ -99,7 +103,7 @@ event-line-spec =
     (λ c. search needs)
     returns-6
     (λ c κs. search needs)
-    (λ c. search needs)
+    cast-put-event
     (λ c. search needs)
     (λ c κs. search needs)
     (λ c. search needs)

@@ -10,10 +10,20 @@ use Rattle.sheet_numbers.proofs.put_event.Tie as tie
 returns : tie.Need-returns
 returns c =
     let w = c .before .before .before .before .before .before in
-    let a = w .before .before .before .args in
-    behind (a .events .now) (6 * a .n) (a .kind ∷ a .operate ∷ a .from ∷ []) (a .len ∷ a .first ∷ 0 ∷ []) (omega arith) (w .put-three .ensures) (c .before .before .put-three2 .ensures)
+    let t = w .before .before .before in
+    let a = t .args in
+    behind (a .events .now) (6 * a .n) (a .kind ∷ a .operate ∷ a .from ∷ []) (a .len ∷ a .first ∷ 0 ∷ []) (omega (arith, t .pre .0)) (w .put-three .ensures) (c .before .before .put-three2 .ensures)
 
 pub put-event-spec : {M : Type 1} → statement M
 put-event-spec =
     tie.close
-    (tie.spec (λ c. search needs) (λ c κs. search needs) (λ c. search needs) (λ c κs. search needs) (λ c. search needs) returns)
+    (tie.spec
+    (λ c. search needs)
+    (λ c. search needs)
+    (λ c κs. search needs)
+    (λ c. search needs)
+    (λ c. search needs)
+    (λ c. search needs)
+    (λ c κs. search needs)
+    (λ c. search needs)
+    returns)

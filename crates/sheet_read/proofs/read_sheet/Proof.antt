@@ -46,7 +46,7 @@ later-lines-requires c κs =
     let a = t .args in (
       omega (arith, v .before .find .ensures .high, v .if3 .left),
       (
-        t .pre,
+        (t .pre .0, t .pre .1, w .before .before .if1 .left),
         first-ok (a .s .now) (a .events .now) (a .clauses .now) (w .before .before .if1 .left) (right w) (v .before .find .ensures) (v .if3 .left) (u .before .before .position-line .ensures) (u .r .given .1),
       ),
     )
