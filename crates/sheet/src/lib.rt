@@ -1,6 +1,7 @@
 // A position sheet: its definitions (specs/), limits, and what the code keeps of one that it read; no function.
 //
 // What is kept are numbers: places in the text, six numbers for each event and nine for each clause.
+
 // The most events and clauses of a sheet.
 pub const EVENT_LIMIT: usize = 32;
 

@@ -26,7 +26,7 @@ use Rattle.sheet.specs.Places.{fieldsOf, eventNumber, SheetOk}
 use Rattle.sheet.specs.declared.SheetAt.{SheetAt}
 use Rattle.sheet.specs.declared.SheetRead.the-variants.{Is, PastLimit, Malformed, NotSeven, BadScore}
 use Rattle.sheet_numbers.specs.Counted.{counted, Narrow}
-use Rattle.sheet_numbers.proofs.Counts.{event-total, clause-total}
+use Rattle.sheet_numbers.proofs.Counts.{event-total, clause-total, span-within}
 use Rattle.sheet_numbers.proofs.MoreClauses.{clause-added, clause-ok, ClauseNumbers}
 use Rattle.sheet_clause.specs.Line.{ClauseLineAs}
 
@@ -62,6 +62,12 @@ module _ (n : ℕ) (l : List ℕ) {g : SignalAt} (k : SignalOk (take n l) g) whe
     v3 = omega (arith, near);
     score = omega (arith, k .low);
   }
+
+-- ---- the count of an event
+
+-- any event has its numbers, and room for one more in its count
+pub count-room : {s es cs : List ℕ} {a : SheetAt} → SheetOk s es cs a → length es ≡ 192 → (i : ℕ) → i < a .events → (6 * i + 6 ≤ length es) × (eventNumber es i 5 ≤ 256)
+count-room ok room i h = (omega (arith, ok .few), omega (arith, span-within ok i h, ok .short))
 
 -- ---- the line
 

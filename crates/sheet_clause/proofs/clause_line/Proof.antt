@@ -5,8 +5,7 @@ use mathlib.Core.Path.{subst}
 use lib.ListN.{drop}
 use borrow.Author.Needs.{needs}
 use Rattle.signal.specs.Read.{ReadAs}
-use Rattle.sheet_numbers.proofs.Counts.{span-within}
-use Rattle.sheet_clause.proofs.ClauseLine.{two-fields, no-event, not-seven, bad-score, no-room, clause-is, narrow}
+use Rattle.sheet_clause.proofs.ClauseLine.{two-fields, no-event, not-seven, bad-score, no-room, clause-is, narrow, count-room}
 use Rattle.sheet_clause.proofs.clause_line.Statement.{statement}
 use Rattle.sheet_clause.proofs.clause_line.Tie as tie
 
@@ -24,7 +23,7 @@ returns-3 : tie.Need-returns-3
 returns-3 c =
     let v = c .before .before .before .before .before .before in
     let t = v .before .before .before .before .before .before in
-    no-room (t .pre .1 .1) (t .pre .0) (t .args .kind) (v .before .before .find .ensures) (v .before .if1 .left) (v .if2 .left) (subst (ReadAs _) (c .before .before .g .given .1) (c .before .before .before .before .from-str .ensures)) (c .if3 .taken)
+    no-room (t .pre .1 .1) (t .pre .0) (t .args .kind) (v .before .before .find .ensures) (v .before .if1 .left) (v .if2 .left) (subst (ReadAs _) (c .before .before .g .given .1) (c .before .before .before .before .from-str .ensures)) (omega (arith, c .if3 .taken))
 
 put-clause-requires : tie.Need-put-clause-requires
 put-clause-requires c κs =
@@ -37,9 +36,7 @@ put-clause-requires c κs =
 more-clauses-requires : tie.Need-more-clauses-requires
 more-clauses-requires c κs =
     let t = c .before .before .before .before .before .before .before .before .before .before .before .before .before .before .before .before .before in
-    let k = t .pre .1 .1 in
-    let h = span-within k (t .args .a .events - 1) (omega arith) in
-    (omega (arith, k .few), omega (arith, h, k .short))
+    count-room (t .pre .1 .1) (t .pre .1 .0 .0) _ (omega arith)
 
 returns-4 : tie.Need-returns-4
 returns-4 c =
