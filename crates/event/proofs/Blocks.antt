@@ -7,7 +7,7 @@ use native.Mathlib.Decide.{decLt}
 use native.Mathlib.Omega.{arith}
 use lib.ListN.{length, getD}
 use Rattle.text.specs.Text.{LF, pipe}
-use Rattle.utf8.specs.Common.{ZeroFor}
+use Rattle.utf8_common.specs.Common.{ZeroFor}
 use Rattle.event.specs.Blocks.{Lesser, Placed, mark, plain, FieldEnd, Others}
 
 -- ---- the end of a field

@@ -11,7 +11,7 @@ use text::PIPE;
 use text::count_parts;
 use text::decimal;
 use text::find;
-use utf8::TEXT_LIMIT;
+use utf8_text::TEXT_LIMIT;
 ghost use mathlib.Core.Path.{_≡_};
 ghost use mathlib.Core.List.{[], _∷_};
 ghost use Prim.Native.Nat.{_+_, _*_, _<_, _≤_};
@@ -370,7 +370,7 @@ pub fn read_sheet(s: &[u8], events: &mut [usize], clauses: &mut [usize]) -> Shee
     if TEXT_LIMIT < n {
         return SheetRead::PastLimit;
     }
-    if !utf8::valid(s) {
+    if !utf8_text::valid(s) {
         return SheetRead::NotUtf8;
     }
     let end = find(s, 0, n, LF);
