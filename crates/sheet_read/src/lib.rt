@@ -7,7 +7,7 @@ use sheet_first::position_line;
 use text::LF;
 use text::PIPE;
 use text::find;
-use utf8::TEXT_LIMIT;
+use utf8_text::TEXT_LIMIT;
 ghost use mathlib.Core.Path.{_≡_};
 ghost use Prim.Native.Nat.{_≤_};
 ghost use lib.ListN.{length};
@@ -89,7 +89,7 @@ pub fn read_sheet(s: &[u8], events: &mut [u16], clauses: &mut [u16]) -> SheetRea
     if TEXT_LIMIT < n {
         return SheetRead::PastLimit;
     }
-    if !utf8::valid(s) {
+    if !utf8_text::valid(s) {
         return SheetRead::NotUtf8;
     }
     let end = find(s, 0, n, LF);

@@ -7,7 +7,7 @@ use text::part_eq;
 use text::put_byte;
 use text::put_part;
 use text::read_i32;
-use utf8::Alone;
+use utf8_text::Alone;
 ghost use mathlib.Core.Path.{_≡_};
 ghost use Prim.Native.Nat.{_+_, _-_, _<_, _≤_};
 ghost use lib.ListN.{length};
@@ -152,7 +152,7 @@ pub fn from_str(s: &[u8]) -> SignalRead
 pub fn signal_alone(s: &[u8]) -> SignalAlone
     ensures { λ r. ⌜ AloneAs (now (s .entry)) r ⌝ }
 {
-    match utf8::check_alone(s) {
+    match utf8_text::check_alone(s) {
         Alone::TooLong => SignalAlone::TooLong,
         Alone::NotUtf8 => SignalAlone::NotUtf8,
         Alone::Marked => SignalAlone::Marked,

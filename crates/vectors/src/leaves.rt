@@ -66,7 +66,7 @@ pub fn bytes(s: &[u8]) {
 pub fn utf8(s: &[u8]) {
     let mut space = [0u8; 64];
     let n = ask::pairs(s, &mut space);
-    show::flag(utf8::valid(&space[..n]));
+    show::flag(utf8_text::valid(&space[..n]));
 }
 
 // N|text: how many parts the underscores make.

@@ -58,7 +58,7 @@ fn is_plain(s: &[u8]) -> bool
 pub fn is_clean(s: &[u8]) -> bool
     ensures { λ r. ⌜ r ≡ clean (now (s .entry)) ⌝ }
 {
-    if utf8::valid(s) {
+    if utf8_text::valid(s) {
         return is_plain(s);
     }
     false
