@@ -18,7 +18,9 @@ use Rattle.table.specs.Read.{Headed}
 use Rattle.table.specs.declared.Counts.{Counts}
 use Rattle.table.specs.declared.Places.{Places}
 use Rattle.table.proofs.Heads.{headed, clauses-many, keys-many, values-many}
-use Rattle.table_check.specs.Check.{eventRows, clauseRows, wordRows, allCut, textsOk, rowsOk, vocabularyOk}
+use Rattle.table_check_rows.specs.Check.{eventRows, clauseRows}
+use Rattle.table_check_words.specs.Check.{wordRows}
+use Rattle.table_check.specs.Check.{allCut, textsOk, rowsOk, vocabularyOk}
 use Rattle.text.proofs.Tested.{broken, decided}
 use Rattle.table_check.proofs.Texts.{clean-none, names-clean, words-clean, pieces, Rise, joined-clean, pieces-clean, lent-from, piece-is, last-is}
 
