@@ -5,7 +5,8 @@ use lib.ListN.{drop}
 use Rattle.table.specs.Layout.{partsIn}
 use Rattle.table.specs.Table.{isTable, headOk}
 use Rattle.table.proofs.Examples.{soy}
-use Rattle.table_check.specs.Check.{textsOk, rowsOk, vocabularyOk}
+use Rattle.table_check_texts.specs.Check.{textsOk}
+use Rattle.table_check.specs.Check.{rowsOk, vocabularyOk}
 use Rattle.table_check.proofs.Opened.{opened}
 
 passes : (isTable soy ≡ true) × (isTable (drop 1 soy) ≡ false)

@@ -1,5 +1,5 @@
 -- The laws of the table check, and worked examples.
-pub mod Texts
+pub mod Spans
 pub mod Parts
 mod Examples
 pub mod Opened

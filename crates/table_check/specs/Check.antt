@@ -1,21 +1,11 @@
--- What the table check knows and answers on its way, part by part. Assumes nothing.
-use Prim.Native.Nat.{ℕ}
+-- What the table check answers on its way, part by part. Assumes nothing.
 use mathlib.Core.Bool.{Bool}
-use mathlib.Core.List.{List, [], _∷_, map}
-use lib.ListN.{length, drop}
-use Rattle.text.specs.Conditions.{allOf, every}
-use Rattle.words.specs.Read.{isCut}
-use Rattle.words.specs.Words.{clean, keyParts, valueParts}
+use mathlib.Core.List.{[], _∷_}
+use lib.ListN.{length}
+use Rattle.text.specs.Conditions.{allOf}
+use Rattle.words.specs.Words.{keyParts, valueParts}
 use Rattle.table.specs.Layout.{Parts}
 use Rattle.table.specs.Table.{eventsOk, clausesOk, wordsOk}
-
--- s may be cut at each of the places
-abbrev pub allCut : List ℕ → List ℕ → Bool
-allCut s cs = allOf (map (λ c. isCut (drop c s)) cs)
-
--- what stands one after another in a table is clean; of the names, the key texts and the value texts this follows from `partsOk`
-unfoldable pub textsOk : Parts → Bool
-textsOk p = every clean (p .name ∷ p .symbol ∷ p .names ∷ p .keytexts ∷ p .valuetexts ∷ [])
 
 unfoldable pub rowsOk : Parts → Bool
 rowsOk p = allOf (eventsOk (p .names) (length (p .clauses)) (p .events) ∷ clausesOk (length (p .keys)) (length (p .values)) (p .clauses) ∷ [])

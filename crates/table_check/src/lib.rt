@@ -3,64 +3,23 @@ use table::Counts;
 use table::Places;
 use table::read_counts;
 use table::read_places;
+use table_check_clauses::clauses_ok;
+use table_check_events::events_ok;
 use table_check_head::head_ok;
-use table_check_rows::clauses_ok;
-use table_check_rows::events_ok;
+use table_check_texts::texts_ok;
 use table_check_words::words_ok;
-use words::is_clean;
-use words::is_cut;
 ghost use mathlib.Core.Path.{_≡_};
 ghost use mathlib.Core.Bool.{true};
-ghost use mathlib.Core.List.{[], _∷_};
 ghost use Rattle.table.specs.Layout.{partsIn};
 ghost use Rattle.table.specs.Table.{isTable};
 ghost use Rattle.table.specs.Read.{Headed};
-ghost use Rattle.table_check.specs.Check.{allCut, textsOk, rowsOk, vocabularyOk};
+ghost use Rattle.table_check_texts.specs.Check.{textsOk};
+ghost use Rattle.table_check.specs.Check.{rowsOk, vocabularyOk};
 
 // The most parts of a key and of a value.
 pub const KEY_PARTS: usize = 3;
 
 pub const VALUE_PARTS: usize = 1;
-
-// Whether s may be cut at each of four places.
-fn cuts_ok(s: &[u8], symbol: usize, names: usize, keytexts: usize, valuetexts: usize) -> bool
-    ensures { λ r. ⌜ r ≡ allCut (now (s .entry)) (symbol ∷ names ∷ keytexts ∷ valuetexts ∷ []) ⌝ }
-{
-    if !is_cut(s, symbol) {
-        return false;
-    }
-    if !is_cut(s, names) {
-        return false;
-    }
-    if !is_cut(s, keytexts) {
-        return false;
-    }
-    is_cut(s, valuetexts)
-}
-
-// Whether the texts are clean, where the header is right: the position's, the events' names, the keys, the values. They follow each other, so that
-// one look at them all is enough where each may be cut off from the next.
-fn texts_ok(t: &[u8], c: Counts, p: Places) -> bool
-    requires { ⌜ Headed (now t) c p ⌝ }
-    ensures { λ r. ⌜ r ≡ textsOk (partsIn (now (t .entry))) ⌝ }
-{
-    let texts = p.texts as usize;
-    let names = p.names as usize;
-    let keytexts = p.keytexts as usize;
-    let valuetexts = p.valuetexts as usize;
-    let used = p.used as usize;
-    let symbol = c.name as usize;
-    if !is_clean(&t[texts..used]) {
-        return false;
-    }
-    cuts_ok(
-        &t[texts..used],
-        symbol,
-        names - texts,
-        keytexts - texts,
-        valuetexts - texts,
-    )
-}
 
 // Whether the events and the clauses are right, where the header and the texts are.
 fn rows_ok(t: &[u8], c: Counts, p: Places) -> bool
