@@ -24,7 +24,7 @@ use Rattle.position.specs.Run.{runBars}
 use Rattle.position.specs.declared.Record.{Record}
 use Rattle.position.specs.declared.Hold.{Hold}
 use Rattle.position.specs.declared.HoldRow.{HoldRow}
-use Rattle.position.proofs.Sound.{HoldOk, RecordOk, YieldOk}
+use Rattle.position_laws.proofs.Sound.{HoldOk, RecordOk, YieldOk}
 use Rattle.book.specs.Layout.{recordsOf, holdsOf}
 use Rattle.book.proofs.Ready.{holds-kept, records-kept}
 use Rattle.field.proofs.Laws.{not-nan}
