@@ -1,5 +1,6 @@
 #!/usr/bin/env python3
-"""Sets the model against every case in crates/position/specs/Cases.antt: its printed lines and its records' operates."""
+"""Sets the model against every row of the proved tables (crates/position/specs/Cases.antt, Further.antt): the printed lines and the
+records' operates of each run, and the doubles that are rounded."""
 import os
 import re
 import sys
@@ -7,8 +8,8 @@ import sys
 sys.dont_write_bytecode = True
 import model
 
-PATH = os.path.join(os.path.dirname(os.path.abspath(__file__)), "..", "crates", "position", "specs", "Cases.antt")
-TEXT = open(PATH, encoding="utf-8").read()
+SPECS = os.path.join(os.path.dirname(os.path.abspath(__file__)), "..", "crates", "position", "specs")
+TEXT = "".join(open(os.path.join(SPECS, name), encoding="utf-8").read() for name in ("Cases.antt", "Further.antt"))
 NAMES = dict(re.findall(r'^(up|down) = (".*")$', TEXT, re.M))
 
 
@@ -43,6 +44,11 @@ def operates(inp):
     return [r.op for r in kept[0].records] if kept else []
 
 
+def double(t):
+    """the double of a row of roundings"""
+    return float(eval(t.replace("whole", "").replace("÷", "/").replace("neg", "-"), {}))
+
+
 def main():
     cases = re.findall(r"input =(.*?);\n\s*output =(.*?);\n\s*operates =(.*?);", TEXT, re.S)
     wrong = 0
@@ -52,8 +58,14 @@ def main():
         if model.run(asked) != joined(lines(out)) or operates(asked) != want:
             wrong += 1
             print(f"case {n + 1} differs:\n{asked.decode()}\nthe model prints\n{model.run(asked).decode()}", file=sys.stderr)
-    print(f"{len(cases)} cases, {wrong} differ")
-    sys.exit(wrong > 0 or not cases)
+    # rows of the form `Rounds (..) (..)`, as in (whole 5 ÷ whole 2) (whole 3)
+    rounded = re.findall(r"^    ∷ Rounds \((.*)\) \((.*)\)$", TEXT, re.M)
+    for x, y in rounded:
+        if model.rnd(double(x)) != double(y):
+            wrong += 1
+            print(f"the model rounds {double(x)} to {model.rnd(double(x))}", file=sys.stderr)
+    print(f"{len(cases)} cases and {len(rounded)} roundings, {wrong} differ")
+    sys.exit(wrong > 0 or not cases or not rounded)
 
 
 main()

@@ -655,13 +655,13 @@ def hold_rows(st):
 
 
 def asked(sh, book, i, rows):
-    """(number, row or None): 10, 15"""
+    """(number, row or None): 8, 10, 15; an index below 0 is past the last as well"""
     if not book_len_ok(book):
         return 8, None
     if not full_ok(sh, book):
         return 10, None
     found = rows(decode(book))
-    return (0, found[i]) if i < len(found) else (15, None)
+    return (0, found[i]) if 0 <= i < len(found) else (15, None)
 
 
 def pair_row(sh, book, i, buf):
@@ -776,4 +776,7 @@ if __name__ == "__main__":
     assert run(CASE1) == OUT1, run(CASE1).decode()
     assert rnd(2.5) == 3.0 and rnd(-2.5) == -3.0 and bits(rnd(-0.3)) == 1 << 63
     assert rnd(0.49999999999999994) == 0.0
+    plain = read_sheet(b"P|soy|M1|0|5|100|0\n")
+    one = feed(plain, fresh(bytes(160))[1], Bar(1, 0, 0, bits(1.0)), b"")[1]
+    assert [hold_row(plain, one, i)[0] for i in (-1, 0, 1)] == [15, 0, 15]
     print("model ok")

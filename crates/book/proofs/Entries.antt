@@ -28,8 +28,8 @@ use Rattle.position.specs.declared.Description.{Description}
 use Rattle.position.specs.declared.Description.the-variants.{Event, Stop, Timeout}
 use Rattle.position.specs.declared.Record.{Record}
 use Rattle.position.specs.declared.Hold.{Hold}
-use Rattle.position.proofs.OneRecord.{Named}
-use Rattle.position.proofs.Sound.{Rising, YieldOk, HoldOk, RecordOk, holdTime, recordTime}
+use Rattle.position_laws.proofs.OneRecord.{Named}
+use Rattle.position_laws.proofs.Sound.{Rising, YieldOk, HoldOk, RecordOk, holdTime, recordTime}
 use Rattle.book.specs.Layout.{holdBytes, holdOf, yieldFlag, recordBytes, recordOf, descriptionCode, descriptionEvent}
 use Rattle.book.specs.Check.{storedYieldOk, holdOk, descriptionOk, recordOk, rising}
 use Rattle.book.proofs.Fits.{DescriptionIn}

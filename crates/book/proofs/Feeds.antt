@@ -13,8 +13,8 @@ use Rattle.position.specs.State.{State}
 use Rattle.position.specs.Step.{Going, Fed, stepHead, step}
 use Rattle.position.specs.Feed.{Input, admitted, Accepted, reported, reportOf, feedState}
 use Rattle.position.specs.declared.Report.{Report}
-use Rattle.position.proofs.OneRecord.{one-record}
-use Rattle.position.proofs.Reach.{admitted-got}
+use Rattle.position_laws.proofs.OneRecord.{one-record}
+use Rattle.position_laws.proofs.Reach.{admitted-got}
 use Rattle.table.specs.Layout.{tableLength}
 use Rattle.table.specs.Table.{readTable}
 use Rattle.book.specs.Layout.{barLimit, encode}

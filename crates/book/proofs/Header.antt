@@ -29,7 +29,7 @@ use Rattle.position.specs.declared.Reference.{Reference}
 use Rattle.position.specs.declared.Reference.the-variants as Reference
 use Rattle.position.specs.declared.Head.{Head}
 use Rattle.position.specs.declared.Hold.{Hold}
-use Rattle.position.proofs.Sound.{OpenOk, HoldOk, ReferenceOk, HeadOk}
+use Rattle.position_laws.proofs.Sound.{OpenOk, HoldOk, ReferenceOk, HeadOk}
 use Rattle.book.specs.Layout.{barLimit, flag, timeBytes, openFlag, openTime, referenceFlag, referenceOperate, referenceBytes, headBytes, yieldFlag, holdBytes, timeAt, openAt, referenceAt, headOf, holdPlace}
 use Rattle.book.specs.Check.{countsOk, openOk, referenceOk, lastOk, usedOk}
 use Rattle.book.proofs.Fits.{HeadIn}

@@ -13,7 +13,7 @@ use Rattle.position.specs.State.{State}
 use Rattle.position.specs.Step.{Going, settleLast, newHold}
 use Rattle.position.specs.declared.Record.{Record}
 use Rattle.position.specs.declared.Hold.{Hold}
-use Rattle.position.proofs.Steps.{settled-many}
+use Rattle.position_laws.proofs.Steps.{settled-many}
 use Rattle.book.specs.Layout.{headBytes, holdBytes, holdsBytes, recordsBytes, encode, holdPlace, recordPlace}
 use Rattle.book.specs.Calls.{settled, fed}
 use Rattle.book.proofs.Fits.{HoldIn}

@@ -16,7 +16,7 @@ use Rattle.text.proofs.Same.{same-refl}
 use Rattle.sheet.specs.Sheet.{Sheet}
 use Rattle.position.specs.State.{State, freshHead, freshState}
 use Rattle.position.specs.declared.Hold.{Hold}
-use Rattle.position.proofs.Sound.{HoldOk, Ends, Sound}
+use Rattle.position_laws.proofs.Sound.{HoldOk, Ends, Sound}
 use Rattle.book.specs.Layout.{barLimit, headBytes, holdBytes, holdsBytes, recordBytes, encode, holdPlace}
 use Rattle.book.specs.Check.{holdOk, recordOk, countsOk, lastOk, usedOk, headerOk, rising, fullOk}
 use Rattle.book.proofs.Fits.{HeadIn}

@@ -22,8 +22,8 @@ use Rattle.position.specs.declared.Description.{Description}
 use Rattle.position.specs.declared.Description.the-variants.{Event, Stop, Timeout}
 use Rattle.position.specs.declared.Record.{Record}
 use Rattle.position.specs.declared.Hold.{Hold}
-use Rattle.position.proofs.OneRecord.{Named}
-use Rattle.position.proofs.Sound.{BarOk, YieldOk, HoldOk, RecordOk, OpenOk, ReferenceOk, HeadOk}
+use Rattle.position_laws.proofs.OneRecord.{Named}
+use Rattle.position_laws.proofs.Sound.{BarOk, YieldOk, HoldOk, RecordOk, OpenOk, ReferenceOk, HeadOk}
 use Rattle.book.proofs.Fits.{TimeIn, BarIn, YieldIn, HoldIn, DescriptionIn, RecordIn, OpenIn, ReferenceIn, HeadIn}
 
 -- ---- times

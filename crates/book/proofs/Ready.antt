@@ -8,7 +8,7 @@ use lib.ListN.{length}
 use Rattle.text.specs.Answer.{Got}
 use Rattle.sheet.specs.Sheet.{Sheet}
 use Rattle.position.specs.State.{State}
-use Rattle.position.proofs.Sound.{Sound}
+use Rattle.position_laws.proofs.Sound.{Sound}
 use Rattle.table.specs.Layout.{tableLength}
 use Rattle.table.specs.Table.{readTable}
 use Rattle.book.specs.Layout.{encode, holdsOf, recordsOf}

@@ -20,8 +20,8 @@ use Rattle.table.specs.Table.{readTable}
 use Rattle.position.specs.State.{freshState}
 use Rattle.position.specs.Step.{Going, settle, newHold}
 use Rattle.position.specs.Feed.{Input, admitted, Accepted}
-use Rattle.position.proofs.OneRecord.{one-record}
-use Rattle.position.proofs.Reach.{admitted-got}
+use Rattle.position_laws.proofs.OneRecord.{one-record}
+use Rattle.position_laws.proofs.Reach.{admitted-got}
 use Rattle.book.specs.Layout.{barLimit, capacity, headBytes, headOf, holdBytes, holdOf, recordsBytes, freshBook, holdPlace, recordPlace}
 use Rattle.book.specs.Check.{countsOk, headerOk}
 use Rattle.book.specs.Calls.{sized, sizedPair, checked, freshDo, settled, fed, feedDo, feedBytes, restoreDo}

@@ -14,7 +14,7 @@ use Rattle.table.specs.Layout.{tableLength}
 use Rattle.table.specs.Table.{readTable}
 use Rattle.table.proofs.Facts.{table-length}
 use Rattle.position.specs.State.{State}
-use Rattle.position.proofs.Sound.{Sound}
+use Rattle.position_laws.proofs.Sound.{Sound}
 use Rattle.book.specs.Layout.{capacity, encode}
 use Rattle.book.specs.Check.{fullOk}
 use Rattle.book.specs.Calls.{sized, checked, saveDo, restoreDo}

@@ -14,8 +14,8 @@ use Rattle.position.specs.State.{State, freshState}
 use Rattle.position.specs.Step.{Fed, step}
 use Rattle.position.specs.Feed.{Input, admitted, Accepted, reportOf, feedState}
 use Rattle.position.specs.Run.{nextState}
-use Rattle.position.proofs.Steps.{holds-grow}
-use Rattle.position.proofs.Reach.{fed-ok, admitted-got, sound-fresh, sound-step}
+use Rattle.position_laws.proofs.Steps.{holds-grow}
+use Rattle.position_laws.proofs.Reach.{fed-ok, admitted-got, sound-fresh, sound-step}
 use Rattle.book.specs.Layout.{encode, freshBook}
 use Rattle.book.specs.Calls.{feedDo, feedBytes}
 use Rattle.book.proofs.Lengths.{capacity-range}

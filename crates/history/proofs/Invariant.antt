@@ -11,7 +11,7 @@ use Rattle.text.proofs.Same.{same-eq}
 use Rattle.sheet.specs.Sheet.{Sheet}
 use Rattle.position.specs.State.{State}
 use Rattle.position.specs.Step.{plain}
-use Rattle.position.proofs.Sound.{Sound}
+use Rattle.position_laws.proofs.Sound.{Sound}
 use Rattle.book.specs.Layout.{encode}
 use Rattle.history.specs.Survivors.{Past, Unknown, Known, Saved, Ledger, savedAs}
 use Rattle.book.proofs.Passes.{Room}

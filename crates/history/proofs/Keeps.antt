@@ -18,8 +18,8 @@ use Rattle.table.proofs.Facts.{table-length}
 use Rattle.position.specs.State.{State}
 use Rattle.position.specs.Step.{Fed, step, plainFrom, plain}
 use Rattle.position.specs.Feed.{Input, fedOf, admitted, Accepted, reportOf, feedState}
-use Rattle.position.proofs.Steps.{plain-more}
-use Rattle.position.proofs.Reach.{admitted-got}
+use Rattle.position_laws.proofs.Steps.{plain-more}
+use Rattle.position_laws.proofs.Reach.{admitted-got}
 use Rattle.book.specs.Layout.{encode}
 use Rattle.book.specs.Calls.{feedDo, feedBytes}
 use Rattle.book.proofs.Feeds.{Ready, feed-is}

@@ -16,8 +16,8 @@ use Rattle.table.proofs.Facts.{table-length}
 use Rattle.position.specs.State.{State}
 use Rattle.position.specs.Step.{Fed, plain}
 use Rattle.position.specs.Rows.{pairsOf, holdRow, holdRows}
-use Rattle.position.proofs.Sound.{Sound}
-use Rattle.position.proofs.Steps.{holds-count, records-few}
+use Rattle.position_laws.proofs.Sound.{Sound}
+use Rattle.position_laws.proofs.Steps.{holds-count, records-few}
 use Rattle.book.specs.Layout.{capacity, encode}
 use Rattle.book.specs.Calls.{checked}
 use Rattle.book.proofs.Feeds.{feed-is}

@@ -15,7 +15,7 @@ use Rattle.sheet.specs.Sheet.{Sheet}
 use Rattle.position.specs.Rows.{opens, sideOf, pairOf, pairsOf, holdRow, holdRows}
 use Rattle.position.specs.declared.Record.{Record}
 use Rattle.position.specs.declared.Hold.{Hold}
-use Rattle.position.proofs.Sound.{HoldOk, RecordOk, YieldOk}
+use Rattle.position_laws.proofs.Sound.{HoldOk, RecordOk, YieldOk}
 use Rattle.field.proofs.Laws.{not-nan}
 use Rattle.history.specs.Demand3.{PairNumbers, HoldNumbers}
 

@@ -18,7 +18,7 @@ use Rattle.position.specs.declared.Reference.{Reference}
 use Rattle.position.specs.declared.Reference.the-variants as Reference
 use Rattle.position.specs.declared.Head.{Head}
 use Rattle.position.specs.declared.Record.{Record}
-use Rattle.position.proofs.Keeps.{going-keeps}
+use Rattle.position_laws.proofs.Keeps.{going-keeps}
 use Rattle.machine.specs.Update.{ofSettings}
 
 -- ---- steps 2 to 6 read the settings alone

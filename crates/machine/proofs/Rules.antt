@@ -22,8 +22,8 @@ use Rattle.position.specs.declared.Description.the-variants.{Event as ByEvent, 
 use Rattle.position.specs.declared.Record.{Record}
 use Rattle.position.specs.declared.Decision.{Decision}
 use Rattle.position.specs.declared.Decision.the-variants.{Nothing, By}
-use Rattle.position.proofs.Acts.{closing-flat, going-opens, going-closes}
-use Rattle.position.proofs.Steps.{notEmpty}
+use Rattle.position_laws.proofs.Acts.{closing-flat, going-opens, going-closes}
+use Rattle.position_laws.proofs.Steps.{notEmpty}
 use Rattle.machine.specs.Update.{wroteOf, goingOf, TimesOk}
 use Rattle.machine.specs.Rules.{silent, exitOf}
 use Rattle.machine.specs.declared.Wrote.the-variants as Wrote

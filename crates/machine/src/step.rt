@@ -260,6 +260,12 @@ fn create_operate_record(
     let long = h.long;
     let short = h.short;
     let reference = h.reference;
+    let record = Record {
+        bar,
+        operate,
+        pos,
+        description,
+    };
     Update {
         head: Head {
             pos,
@@ -269,12 +275,7 @@ fn create_operate_record(
             short,
             reference,
         },
-        wrote: Wrote::One(Record {
-            bar,
-            operate,
-            pos,
-            description,
-        }),
+        wrote: Wrote::One(record),
     }
 }
 

@@ -1,10 +1,3 @@
--- The laws of the plain machine, and the starred cases.
+-- The starred cases.
 pub mod Opened
 pub mod Starred
-pub mod Keeps
-pub mod Acts
-pub mod OneRecord
-pub mod Steps
-pub mod Sound
-pub mod HeadReach
-pub mod Reach

@@ -5,3 +5,4 @@ pub mod Feed
 pub mod Rows
 pub mod Run
 pub mod Cases
+pub mod Further

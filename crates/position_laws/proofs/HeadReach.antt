@@ -17,18 +17,18 @@ use Rattle.bar.specs.declared.Time.{Time}
 use Rattle.bar.specs.declared.Bar.{Bar}
 use Rattle.sheet.specs.Sheet.{Sheet}
 use Rattle.event.specs.Signals.{Line}
 use Rattle.position.specs.State.{freshHead}
 use Rattle.position.specs.Step.{Going, choose, write, openNow, referenceFor, arrive, stepHead}
 use Rattle.position.specs.declared.Pos.{Pos}
 use Rattle.position.specs.declared.Open.{Open}
 use Rattle.position.specs.declared.Open.the-variants as Open
 use Rattle.position.specs.declared.Reference.{Reference}
 use Rattle.position.specs.declared.Reference.the-variants as Reference
 use Rattle.position.specs.declared.Head.{Head}
 use Rattle.position.specs.declared.Description.{Description}
-use Rattle.position.proofs.Keeps.{going-keeps}
-use Rattle.position.proofs.OneRecord.{event-known}
-use Rattle.position.proofs.Sound.{By, Before, BarOk, OpenOk, ReferenceOk, HeadOk}
+use Rattle.position_laws.proofs.Keeps.{going-keeps}
+use Rattle.position_laws.proofs.OneRecord.{event-known}
+use Rattle.position_laws.proofs.Sound.{By, Before, BarOk, OpenOk, ReferenceOk, HeadOk}
 
 -- ---- times
 

@@ -18,18 +18,18 @@ use Rattle.bar.specs.declared.Bar.{Bar}
 use Rattle.sheet.specs.Sheet.{Event, Sheet}
 use Rattle.event.specs.Signals.{Line}
 use Rattle.event.specs.Match.{firstMatch}
 use Rattle.position.specs.State.{trades}
 use Rattle.position.specs.Step.{Going, choiceAt, choiceOf, choose, other, openOf, closeOf, posOf, on, lastOpen, allowed, mayClose, stopped, timedOut, write, openNow, arrive, openOrClose, closeOn, closing, going, stepHead}
 use Rattle.position.specs.declared.Choice.{Choice}
 use Rattle.position.specs.declared.Pos.{Pos}
 use Rattle.position.specs.declared.Pos.the-variants.{Flat}
 use Rattle.position.specs.declared.Reference.{Reference}
 use Rattle.position.specs.declared.Reference.the-variants as Reference
 use Rattle.position.specs.declared.Head.{Head}
 use Rattle.position.specs.declared.Description.{Description}
 use Rattle.position.specs.declared.Description.the-variants.{Event as ByEvent, Stop, Timeout}
 use Rattle.position.specs.declared.Record.{Record}
-use Rattle.position.proofs.Acts.{closing-flat, going-opens, going-closes}
+use Rattle.position_laws.proofs.Acts.{closing-flat, going-opens, going-closes}
 
 -- ---- what a bar writes
 

@@ -12,13 +12,13 @@ use Rattle.double.proofs.OwnPrice.{own-price}
 use Rattle.operate.specs.Operate.{LO, SO}
 use Rattle.bar.specs.declared.Bar.{Bar}
 use Rattle.sheet.specs.Sheet.{Sheet}
 use Rattle.position.specs.Step.{Going, openOf, closeOf, on, lastOpen, mayClose, stopped, timedOut, write, openNow, arrive, openOrClose, opening, closeOn, closing, going}
 use Rattle.position.specs.declared.Pos.the-variants.{Flat}
 use Rattle.position.specs.declared.Choice.{Choice}
 use Rattle.position.specs.declared.Reference.{Reference}
 use Rattle.position.specs.declared.Reference.the-variants as Reference
 use Rattle.position.specs.declared.Head.{Head}
-use Rattle.position.proofs.Keeps.{opening-keeps}
+use Rattle.position_laws.proofs.Keeps.{opening-keeps}
 
 -- the reference that an LO or SO makes
 own : Bar → Choice → Reference

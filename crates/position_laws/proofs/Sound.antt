@@ -17,16 +17,16 @@ use Rattle.bar.specs.Bar.{lastId, timeOk}
 use Rattle.bar.specs.declared.Time.{Time}
 use Rattle.bar.specs.declared.Bar.{Bar}
 use Rattle.sheet.specs.Sheet.{Sheet}
 use Rattle.position.specs.State.{State, freshState, trades}
 use Rattle.position.specs.declared.Open.{Open}
 use Rattle.position.specs.declared.Open.the-variants as Open
 use Rattle.position.specs.declared.LastEvent.{LastEvent}
 use Rattle.position.specs.declared.Reference.{Reference}
 use Rattle.position.specs.declared.Reference.the-variants as Reference
 use Rattle.position.specs.declared.Head.{Head}
 use Rattle.position.specs.declared.Record.{Record}
 use Rattle.position.specs.declared.Hold.{Hold}
-use Rattle.position.proofs.OneRecord.{Named}
+use Rattle.position_laws.proofs.OneRecord.{Named}
 
 -- ---- times
 

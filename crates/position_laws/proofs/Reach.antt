@@ -28,16 +28,16 @@ use Rattle.bar.specs.declared.Time.{Time}
 use Rattle.bar.specs.declared.Bar.{Bar}
 use Rattle.sheet.specs.Sheet.{Sheet}
 use Rattle.event.specs.Signals.{Line, readSignals}
 use Rattle.position.specs.State.{State, freshHead, freshState}
 use Rattle.position.specs.Step.{Fed, stepHead, settle, settleLast, newHold, step}
 use Rattle.position.specs.Feed.{Input, fedOf, admitted, Accepted, reportOf, feedState}
 use Rattle.position.specs.declared.Head.{Head}
 use Rattle.position.specs.declared.Record.{Record}
 use Rattle.position.specs.declared.Hold.{Hold}
-use Rattle.position.proofs.OneRecord.{Written, recorded}
-use Rattle.position.proofs.Steps.{end-now, holds-grow, records-grow}
-use Rattle.position.proofs.Sound.{By, Before, Rising, BarOk, YieldOk, HoldOk, RecordOk, holdTime, recordTime, Ends, Sound}
-use Rattle.position.proofs.HeadReach.{by-self, by-before, before-by, Past, past-fresh, past-later, head-reach}
+use Rattle.position_laws.proofs.OneRecord.{Written, recorded}
+use Rattle.position_laws.proofs.Steps.{end-now, holds-grow, records-grow}
+use Rattle.position_laws.proofs.Sound.{By, Before, Rising, BarOk, YieldOk, HoldOk, RecordOk, holdTime, recordTime, Ends, Sound}
+use Rattle.position_laws.proofs.HeadReach.{by-self, by-before, before-by, Past, past-fresh, past-later, head-reach}
 
 -- ---- what a feed's arguments give
 

@@ -10,13 +10,13 @@ use Rattle.double.specs.declared.Side.the-variants as Side
 use Rattle.bar.specs.declared.Bar.{Bar}
 use Rattle.sheet.specs.Sheet.{Sheet}
 use Rattle.event.specs.Signals.{Line}
 use Rattle.position.specs.State.{State, freshState}
 use Rattle.position.specs.Step.{Going, Fed, choose, write, openNow, arrive, stepHead, settleLast, step, plainFrom, plain}
 use Rattle.position.specs.declared.Head.{Head}
 use Rattle.position.specs.declared.Record.{Record}
 use Rattle.position.specs.declared.Hold.{Hold}
-use Rattle.position.proofs.Keeps.{going-keeps}
-use Rattle.position.proofs.OneRecord.{Written, recorded, one-record}
+use Rattle.position_laws.proofs.Keeps.{going-keeps}
+use Rattle.position_laws.proofs.OneRecord.{Written, recorded, one-record}
 
 -- ---- the head
 
