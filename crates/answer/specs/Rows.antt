@@ -14,11 +14,11 @@ use Rattle.position.specs.Feed.{Accepted}
 use Rattle.position.specs.declared.HoldRow.{HoldRow}
 use Rattle.position.specs.declared.Decision.{Decision}
 use Rattle.position.specs.declared.Decision.the-variants.{Nothing, By}
+use Rattle.position.specs.declared.PairRow.{PairRow}
 use Rattle.book.specs.Layout.{flag, yieldFlag, descriptionCode, descriptionEvent}
 use Rattle.blocks.specs.Blocks.{sideSign}
 use Rattle.blocks.specs.declared.Block.{Block}
 use Rattle.blocks.specs.declared.RowCounts.{RowCounts}
-use Rattle.pairs.specs.declared.PairRow.{PairRow}
 use Rattle.answer.specs.declared.NameAnswer.{NameAnswer}
 use Rattle.answer.specs.declared.FeedAnswer.{FeedAnswer}
 use Rattle.answer.specs.declared.PairAnswer.{PairAnswer}

@@ -9,9 +9,8 @@ use Rattle.table.specs.Compile.{Compiled}
 use Rattle.position.specs.Feed.{Accepted}
 use Rattle.position.specs.Rows.{Pair}
 use Rattle.book.specs.Calls.{feedBytes}
-use Rattle.rows.specs.Calls.{pairBytes, eventNameBytes}
+use Rattle.rows.specs.Calls.{pairBytes, pairRow, eventNameBytes}
 use Rattle.blocks.specs.Blocks.{blockOf, blockBytes}
-use Rattle.pairs.specs.Read.{pairRow}
 use Rattle.answer.specs.Rows.{feedAnswer, pairAnswer, blockAnswer, nameAnswer}
 use Rattle.answer.specs.declared.FeedAnswer.{FeedAnswer}
 use Rattle.answer.specs.declared.PairAnswer.{PairAnswer}

@@ -1,8 +1,8 @@
 // The lines that the run program prints, written to a buffer: a feed, a pair row, a hold row, a refusal.
 use double::Side;
 use double::Yield;
-use pairs::PairRow;
 use position::HoldRow;
+use position::PairRow;
 use text::LF;
 use text::PIPE;
 use text::put_byte;

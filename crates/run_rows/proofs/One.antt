@@ -19,10 +19,10 @@ use Rattle.double.specs.declared.Yield.the-variants.{Absent, Bp}
 use Rattle.position.specs.Rows.{Pair, holdRows}
 use Rattle.position.specs.Run.{runBars, pairLine, holdLine}
 use Rattle.position.specs.declared.HoldRow.{HoldRow}
+use Rattle.position.specs.declared.PairRow.{PairRow}
 use Rattle.book.specs.Layout.{holdsOf}
-use Rattle.rows.specs.Calls.{rowBuffer, rowAt, pairDo, pairText, pairBytes, holdDo}
-use Rattle.pairs.specs.Read.{pairRow, pairReadOf, PairAs}
-use Rattle.pairs.specs.declared.PairRow.{PairRow}
+use Rattle.rows.specs.Calls.{rowBuffer, rowAt, pairDo, pairText, pairBytes, pairRow, holdDo}
+use Rattle.pairs.specs.Read.{pairReadOf, PairAs}
 use Rattle.pairs.specs.declared.PairRead.{PairRead}
 use Rattle.pairs.specs.declared.PairRead.the-variants as PairRead
 use Rattle.pairs.proofs.Texts.{pair-room}
