@@ -7,10 +7,9 @@ use Rattle.position.specs.Feed.{Accepted}
 use Rattle.position.specs.Rows.{Pair}
 use Rattle.position.specs.declared.HoldRow.{HoldRow as Hold}
 use Rattle.book.specs.Calls.{feedDo}
-use Rattle.rows.specs.Calls.{pairDo, holdDo, eventNameDo}
+use Rattle.rows.specs.Calls.{pairRow, pairDo, holdDo, eventNameDo}
 use Rattle.blocks.specs.Blocks.{holdBlockDo, pairBlockDo, countsDo, blockOf}
 use Rattle.blocks.specs.declared.RowCounts.{RowCounts}
-use Rattle.pairs.specs.Read.{pairRow}
 use Rattle.answer.specs.Rows.{feedAnswer, pairAnswer, holdAnswer, blockAnswer, countsAnswer, nameAnswer}
 use Rattle.answer.specs.declared.FeedAnswer.{FeedAnswer}
 use Rattle.answer.specs.declared.PairAnswer.{PairAnswer}
