@@ -13,9 +13,9 @@ use lib.Signed.{leZ}
 use lib.ListN.{length, getD, take, drop}
 use lib.Seq.{slice}
 use Rattle.text.specs.Text.{same}
-use Rattle.text.specs.Read.{intOf}
-use Rattle.text.specs.declared.Int.{Int}
-use Rattle.text.specs.declared.Int.the-variants.{Plus, Minus}
+use Rattle.text_number.specs.Read.{intOf}
+use Rattle.text_number.specs.declared.Int.{Int}
+use Rattle.text_number.specs.declared.Int.the-variants.{Plus, Minus}
 use Rattle.text.proofs.Conditions.{fact}
 use Rattle.text.proofs.Laws.{part-end, part-size}
 use Rattle.text.proofs.Same.{same-refl}

@@ -14,9 +14,10 @@ use Rattle.list.specs.Numbered.{numbered, rows}
 use Rattle.text.specs.Literal.{bytes, encoded}
 use Rattle.text.specs.Text.{same, split, onto, pipe}
 use Rattle.text.specs.Number.{atMost, digitsTo, unsigned}
-use Rattle.text.specs.Read.{Part, numberOf}
-use Rattle.text.specs.declared.Number.{Number}
-use Rattle.text.specs.declared.Number.the-variants.{Is as Number·Is}
+use Rattle.text.specs.Read.{Part}
+use Rattle.text_number.specs.Read.{numberOf}
+use Rattle.text_number.specs.declared.Number.{Number}
+use Rattle.text_number.specs.declared.Number.the-variants.{Is as Number·Is}
 use Rattle.sheet.specs.Sheet.{nameLimit, intervalLimit, timeoutLimit, stopLimit, t0Limit}
 use Rattle.sheet.specs.Read.{positionLine}
 use Rattle.sheet.specs.Places.{fieldsOf, sheetAt, clausesBefore}

@@ -1,19 +1,20 @@
 // Signals, their keys, and a bar's values.
-use text::Int;
-use text::Number;
 use text::UNDERSCORE;
 use text::find;
 use text::part_eq;
 use text::put_byte;
 use text::put_part;
-use text::read_i32;
+use text_number::Int;
+use text_number::Number;
+use text_number::read_i32;
 use utf8_text::Alone;
 ghost use mathlib.Core.Path.{_≡_};
 ghost use Prim.Native.Nat.{_+_, _-_, _<_, _≤_};
 ghost use lib.ListN.{length};
 ghost use lib.Seq.{slice};
 ghost use Rattle.text.specs.Text.{same};
-ghost use Rattle.text.specs.Read.{Part, numberOf, intOf};
+ghost use Rattle.text.specs.Read.{Part};
+ghost use Rattle.text_number.specs.Read.{numberOf, intOf};
 ghost use Rattle.signal.specs.Signal.{wildcard, score as Signal·score};
 ghost use Rattle.signal.specs.Read.{ThreeFrom, LastFrom, SignalOk, ReadAs, AloneAs, KeyPut, KeyAt, ValueAs};
 

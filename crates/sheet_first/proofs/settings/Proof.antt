@@ -4,7 +4,7 @@ use native.Mathlib.Omega.{arith}
 use mathlib.Core.Path.{_≡_, _∙_, sym, ap}
 use mathlib.Core.Option.{some}
 use borrow.Author.Needs.{needs}
-use Rattle.text.specs.Read.{numberOf}
+use Rattle.text_number.specs.Read.{numberOf}
 use Rattle.sheet.specs.Sheet.{intervalLimit, timeoutLimit, stopLimit}
 use Rattle.sheet.proofs.Fields.{Cut, cut, cut-rest}
 use Rattle.sheet_first.proofs.FirstLine.{fieldOf, names-rest, bad-interval, bad-timeout, bad-stop, bad-t0, settings-are}

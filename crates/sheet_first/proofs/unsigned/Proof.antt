@@ -1,7 +1,7 @@
 -- A number of at most ten digits that is not above the limit. Assumes nothing.
 use mathlib.Core.Path.{sym, ap, _∙_}
 use borrow.Author.Needs.{needs}
-use Rattle.text.specs.Read.{numberOf}
+use Rattle.text_number.specs.Read.{numberOf}
 use Rattle.text.specs.Number.{atMost}
 use Rattle.sheet_first.proofs.FirstLine.{number-over, number-in}
 use Rattle.sheet_first.proofs.unsigned.Statement.{statement}

@@ -1,8 +1,8 @@
--- `text::put_hex` meets its contract: `Hexed`, the digits that stand and those to come, is the invariant. Assumes nothing.
+-- `text_write::put_hex` meets its contract: `Hexed`, the digits that stand and those to come, is the invariant. Assumes nothing.
 use borrow.Author.Needs.{needs}
-use Rattle.text.proofs.Written.{Hexed, hexed-first, hexed-more, hexed-last}
-use Rattle.text.proofs.put_hex.Statement.{statement}
-use Rattle.text.proofs.put_hex.Tie as tie
+use Rattle.text_write.proofs.Written.{Hexed, hexed-first, hexed-more, hexed-last}
+use Rattle.text_write.proofs.put_hex.Statement.{statement}
+use Rattle.text_write.proofs.put_hex.Tie as tie
 
 abbrev Inv-loop : tie.InvT-loop
 Inv-loop dst₀ at v k₀ w₀ dst k w = Hexed dst₀ at v dst k w

@@ -1,9 +1,9 @@
--- `text::hex_value` meets its contract: each answer is a law of the digit's range. Assumes nothing.
+-- `text_number::hex_value` meets its contract: each answer is a law of the digit's range. Assumes nothing.
 use borrow.Author.Needs.{needs}
 use mathlib.Core.Path.{sym}
-use Rattle.text.proofs.Hex.{hex-decimal, hex-letter, hex-below, hex-between, hex-above}
-use Rattle.text.proofs.hex_value.Statement.{statement}
-use Rattle.text.proofs.hex_value.Tie as tie
+use Rattle.text_number.proofs.Hex.{hex-decimal, hex-letter, hex-below, hex-between, hex-above}
+use Rattle.text_number.proofs.hex_value.Statement.{statement}
+use Rattle.text_number.proofs.hex_value.Tie as tie
 
 pub hex-value-spec : {M : Type 1} → statement M
 hex-value-spec =

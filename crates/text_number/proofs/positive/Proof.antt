@@ -1,10 +1,10 @@
--- `text::positive` meets its contract, by cases on the magnitude. Assumes nothing.
-use Rattle.text.specs.Read.{numberOf}
+-- `text_number::positive` meets its contract, by cases on the magnitude. Assumes nothing.
+use Rattle.text_number.specs.Read.{numberOf}
 use Rattle.text.specs.Number.{plus}
 use mathlib.Core.Path.{sym, ap}
 use borrow.Author.Needs.{needs}
-use Rattle.text.proofs.positive.Statement.{statement}
-use Rattle.text.proofs.positive.Tie as tie
+use Rattle.text_number.proofs.positive.Statement.{statement}
+use Rattle.text_number.proofs.positive.Tie as tie
 
 returns : tie.Need-returns
 returns c = ap (λ n. plus (numberOf n)) (sym (c .before .m .given .1))

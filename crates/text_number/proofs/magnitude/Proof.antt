@@ -1,12 +1,12 @@
--- `text::magnitude` meets its contract: `Bounded` is the invariant, and what is past the limit stays past it. Assumes nothing.
+-- `text_number::magnitude` meets its contract: `Bounded` is the invariant, and what is past the limit stays past it. Assumes nothing.
 use borrow.Author.Needs.{needs}
 use Prim.Native.Nat.{_-_}
 use native.Mathlib.Omega.{arith}
 use mathlib.Core.Path.{sym, ap}
-use Rattle.text.proofs.Digits.{natural-none, reading-first, reading-low, reading-high, reading-more, reading-past, Bounded, bounded-last}
+use Rattle.text_number.proofs.Digits.{natural-none, reading-first, reading-low, reading-high, reading-more, reading-past, Bounded, bounded-last}
 use Rattle.text.specs.Number.{atMost}
-use Rattle.text.proofs.magnitude.Statement.{statement}
-use Rattle.text.proofs.magnitude.Tie as tie
+use Rattle.text_number.proofs.magnitude.Statement.{statement}
+use Rattle.text_number.proofs.magnitude.Tie as tie
 
 abbrev Inv-loop : tie.InvT-loop
 Inv-loop s from to hi v₀ i₀ v i = Bounded s from to hi v i

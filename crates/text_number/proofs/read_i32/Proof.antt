@@ -1,10 +1,10 @@
--- `text::read_i32` meets its contract: one law for each first byte. Assumes nothing.
+-- `text_number::read_i32` meets its contract: one law for each first byte. Assumes nothing.
 use mathlib.Core.Path.{ap, _∙_}
 use Rattle.text.specs.Number.{plus, negated}
-use Rattle.text.proofs.Digits.{i32-none, i32-plus, i32-minus, i32-digits}
+use Rattle.text_number.proofs.Digits.{i32-none, i32-plus, i32-minus, i32-digits}
 use borrow.Author.Needs.{needs}
-use Rattle.text.proofs.read_i32.Statement.{statement}
-use Rattle.text.proofs.read_i32.Tie as tie
+use Rattle.text_number.proofs.read_i32.Statement.{statement}
+use Rattle.text_number.proofs.read_i32.Tie as tie
 
 returns : tie.Need-returns
 returns c = i32-none (c .before .before .pre) (c .if1 .taken)

@@ -1,11 +1,11 @@
--- `text::put_decimal` meets its contract: `Filled`, the digits that stand and those to come, is the invariant. Assumes nothing.
+-- `text_write::put_decimal` meets its contract: `Filled`, the digits that stand and those to come, is the invariant. Assumes nothing.
 use lib.ListN.{length-set}
 use mathlib.Core.Path.{refl}
 use borrow.Author.Needs.{needs}
 use native.Mathlib.Omega.{arith}
-use Rattle.text.proofs.Written.{Filled, filled-first, filled-room, filled-more, filled-last}
-use Rattle.text.proofs.put_decimal.Statement.{statement}
-use Rattle.text.proofs.put_decimal.Tie as tie
+use Rattle.text_write.proofs.Written.{Filled, filled-first, filled-room, filled-more, filled-last}
+use Rattle.text_write.proofs.put_decimal.Statement.{statement}
+use Rattle.text_write.proofs.put_decimal.Tie as tie
 
 abbrev Inv-loop : tie.InvT-loop
 Inv-loop dst at v digits₀ p₀ w₀ digits p w = Filled v digits p w

@@ -1,9 +1,9 @@
--- `text::hex_digit` meets its contract: one answer for each side of the test. Assumes nothing.
+-- `text_write::hex_digit` meets its contract: one answer for each side of the test. Assumes nothing.
 use borrow.Author.Tests.{lt-ltb, le-ltb}
 use mathlib.Core.Path.{sym}
 use borrow.Author.Needs.{needs}
-use Rattle.text.proofs.hex_digit.Statement.{statement}
-use Rattle.text.proofs.hex_digit.Tie as tie
+use Rattle.text_write.proofs.hex_digit.Statement.{statement}
+use Rattle.text_write.proofs.hex_digit.Tie as tie
 
 returns : tie.Need-returns
 returns c = sym (rw (lt-ltb _ _ (c .if1 .taken)))

@@ -1,9 +1,9 @@
--- `text::decimal` meets its contract: too many digits, or a number that is not cut. Assumes nothing.
+-- `text_number::decimal` meets its contract: too many digits, or a number that is not cut. Assumes nothing.
 use borrow.Author.Needs.{needs}
 use mathlib.Core.Path.{_∙_}
-use Rattle.text.proofs.Digits.{decimal-long, decimal-few}
-use Rattle.text.proofs.decimal.Statement.{statement}
-use Rattle.text.proofs.decimal.Tie as tie
+use Rattle.text_number.proofs.Digits.{decimal-long, decimal-few}
+use Rattle.text_number.proofs.decimal.Statement.{statement}
+use Rattle.text_number.proofs.decimal.Tie as tie
 
 returns : tie.Need-returns
 returns c = decimal-long (c .before .before .pre .0) _ (c .if1 .taken)

@@ -1,13 +1,13 @@
--- `text::read_hex` meets its contract: `Hexing` is the invariant, and each answer a law of what was read up to there. Assumes nothing.
+-- `text_number::read_hex` meets its contract: `Hexing` is the invariant, and each answer a law of what was read up to there. Assumes nothing.
 use borrow.Author.Needs.{needs}
 use Prim.Native.Nat.{_-_}
 use native.Mathlib.Omega.{arith}
 use mathlib.Core.Path.{_∙_, sym, ap}
 use lib.ListN.{getD}
-use Rattle.text.specs.Read.{numberOf}
-use Rattle.text.proofs.Hex.{hex-small, Hexing, hexing-other, hexing-first, hexing-last, hexing-fits, hexing-bad, hexing-more}
-use Rattle.text.proofs.read_hex.Statement.{statement}
-use Rattle.text.proofs.read_hex.Tie as tie
+use Rattle.text_number.specs.Read.{numberOf}
+use Rattle.text_number.proofs.Hex.{hex-small, Hexing, hexing-other, hexing-first, hexing-last, hexing-fits, hexing-bad, hexing-more}
+use Rattle.text_number.proofs.read_hex.Statement.{statement}
+use Rattle.text_number.proofs.read_hex.Tie as tie
 
 abbrev Inv-loop : tie.InvT-loop
 Inv-loop s from to v₀ i₀ v i = Hexing s from to v i
