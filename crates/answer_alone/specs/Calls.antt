@@ -1,6 +1,7 @@
--- What the exported calls of a text or a code alone answer: the number and values, and the bytes of the lent buffer at exit. A refusal has zeros
--- for values and keeps every byte. Assumes nothing.
+-- What the calls of a text or a code alone answer to the host: the number and values, and the bytes of the lent buffer at exit. A refusal has
+-- zeros for values and keeps every byte. Assumes nothing.
 use Prim.Native.Nat.{ℕ}
+use mathlib.Core.Path.{_≡_}
 use mathlib.Core.List.{List, _++_}
 use lib.Dec.{leb}
 use lib.ListN.{length}
@@ -8,8 +9,9 @@ use Rattle.le.specs.Le.{patch}
 use Rattle.text.specs.Answer.{Answer, Refused, Got, _>>=_, must}
 use Rattle.operate.specs.Operate.{operateName}
 use Rattle.signal.specs.Signal.{Signal, signalAlone}
-use Rattle.position_book.specs.declared.SignalAnswer.{SignalAnswer}
-use Rattle.position_book.specs.declared.OperateAnswer.{OperateAnswer}
+use Rattle.answer_alone.specs.declared.SignalAnswer.{SignalAnswer}
+use Rattle.answer_alone.specs.declared.OperateAnswer.{OperateAnswer}
+use Rattle.answer_alone.specs.declared.NameAnswer.{NameAnswer}
 
 -- ---- a signal alone
 
@@ -26,9 +28,13 @@ signalAnswer (Refused n) = record { number = n; score = 0; key = 0; v1 = 0; v2 =
 signalAnswer (Got g) = record { number = 0; score = g .score; key = length (g .key); v1 = length (g .v1); v2 = length (g .v2); v3 = length (g .v3) }
 
 -- the key and the three values one after another at the start of the buffer, the later bytes kept
-abbrev pub signalBytes : Answer Signal → List ℕ → List ℕ
-signalBytes (Refused n) out = out
-signalBytes (Got g) out = patch out 0 (g .key ++ g .v1 ++ g .v2 ++ g .v3)
+abbrev pub signalBytes : List ℕ → Answer Signal → List ℕ
+signalBytes out (Refused n) = out
+signalBytes out (Got g) = patch out 0 (g .key ++ g .v1 ++ g .v2 ++ g .v3)
+
+-- r is the number and the values of the answer, and the buffer that was `before` is `after` at exit
+abbrev pub SignalIs : Answer Signal → List ℕ → List ℕ → SignalAnswer → Type 0
+SignalIs d before after r = (r ≡ signalAnswer d) × (after ≡ signalBytes before d)
 
 -- ---- an operate alone
 
@@ -45,6 +51,18 @@ nameDo code out = do
   _ ← must 8 (leb (length name) (length out))
   Got name
 
-abbrev pub nameBytes : Answer (List ℕ) → List ℕ → List ℕ
-nameBytes (Refused n) out = out
-nameBytes (Got name) out = patch out 0 name
+-- a name's length, since the buffer has the name
+abbrev pub lengthAnswer : Answer ℕ → NameAnswer
+lengthAnswer (Refused n) = record { number = n; length = 0 }
+lengthAnswer (Got n) = record { number = 0; length = n }
+
+abbrev pub nameAnswer : Answer (List ℕ) → NameAnswer
+nameAnswer a = lengthAnswer (a >>= λ name. Got (length name))
+
+abbrev pub nameBytes : List ℕ → Answer (List ℕ) → List ℕ
+nameBytes out (Refused n) = out
+nameBytes out (Got name) = patch out 0 name
+
+-- the same of a name
+abbrev pub NameIs : Answer (List ℕ) → List ℕ → List ℕ → NameAnswer → Type 0
+NameIs d before after r = (r ≡ nameAnswer d) × (after ≡ nameBytes before d)

@@ -2,9 +2,9 @@
 use mathlib.Core.Path.{_∙_, sym, ap}
 use borrow.Author.Needs.{needs}
 use Rattle.operate.specs.Read.{aloneOf}
-use Rattle.position_book.specs.Calls.{operateAnswer}
-use Rattle.position_book.proofs.position_book_operate.Statement.{statement}
-use Rattle.position_book.proofs.position_book_operate.Tie as tie
+use Rattle.answer_alone.specs.Calls.{operateAnswer}
+use Rattle.answer_alone.proofs.operate_answer.Statement.{statement}
+use Rattle.answer_alone.proofs.operate_answer.Tie as tie
 
 returns : tie.Need-returns
 returns c = rw (c .code .ensures) (ap operateAnswer (sym (ap aloneOf (c .before .before .o .given .1)) ∙ c .before .before .before .before .operate-alone .ensures))
@@ -21,8 +21,8 @@ returns-4 c = ap operateAnswer (sym (ap aloneOf (c .enum-told3 .given .1)) ∙ c
 returns-5 : tie.Need-returns-5
 returns-5 c = ap operateAnswer (sym (ap aloneOf (c .enum-told4 .given .1)) ∙ c .before .before .operate-alone .ensures)
 
-pub position-book-operate-spec : {M : Type 1} → statement M
-position-book-operate-spec =
+pub operate-answer-spec : {M : Type 1} → statement M
+operate-answer-spec =
     tie.close
     (tie.spec
     (λ c κs. search needs)

@@ -2,9 +2,9 @@
 use mathlib.Core.Path.{refl}
 use native.Mathlib.Omega.{arith}
 use borrow.Author.Needs.{needs}
-use Rattle.position_book.proofs.Laws.{name-case, name-unknown, name-short, name-done, name-put}
-use Rattle.position_book.proofs.position_book_operate_name.Statement.{statement}
-use Rattle.position_book.proofs.position_book_operate_name.Tie as tie
+use Rattle.answer_alone.proofs.Laws.{name-case, name-unknown, name-short, name-done, name-put}
+use Rattle.answer_alone.proofs.operate_name.Statement.{statement}
+use Rattle.answer_alone.proofs.operate_name.Tie as tie
 
 returns : tie.Need-returns
 returns c =
@@ -24,8 +24,8 @@ returns-3 c =
     let p = name-put (a .code) (a .out .now) (omega arith) n (c .before .before .put-part .ensures) in
     name-case (a .code) (a .out .now) (name-done (a .code) (a .out .now) (omega arith) n (w .if2 .left)) (p .0) (p .1)
 
-pub position-book-operate-name-spec : {M : Type 1} → statement M
-position-book-operate-name-spec =
+pub operate-name-spec : {M : Type 1} → statement M
+operate-name-spec =
     tie.close
     (tie.spec
     returns

@@ -3,9 +3,9 @@ use mathlib.Core.Path.{_∙_, refl, sym, ap, subst}
 use borrow.Author.Needs.{needs}
 use Rattle.signal.specs.Read.{aloneOf, AloneAs}
 use Rattle.signal.specs.declared.SignalAlone.the-variants.{Alone}
-use Rattle.position_book.proofs.Laws.{signal-case, signal-refused, signal-short, signal-done}
-use Rattle.position_book.proofs.position_book_signal.Statement.{statement}
-use Rattle.position_book.proofs.position_book_signal.Tie as tie
+use Rattle.answer_alone.proofs.Laws.{signal-case, signal-refused, signal-short, signal-done}
+use Rattle.answer_alone.proofs.signal_answer.Statement.{statement}
+use Rattle.answer_alone.proofs.signal_answer.Tie as tie
 
 -- what the text says where it is a signal
 read : (c : tie.After-known-told) → AloneAs (c .before .before .before .before .before .before .args .text .now) (Alone (c .before .a .given .0 .0))
@@ -56,10 +56,10 @@ returns-7 c =
     let w = v .before in
     let a = w .before .before .before .before .before .before .args in
     let p = c .before .before .put-signal .ensures in
-    signal-case (a .text .now) (a .out .now) (signal-done (a .text .now) (a .out .now) (read w .is) (v .if1 .left)) (p .answer) (p .bytes)
+    signal-case (a .text .now) (a .out .now) (signal-done (a .text .now) (a .out .now) (read w .is) (v .if1 .left)) (p .0) (p .1)
 
-pub position-book-signal-spec : {M : Type 1} → statement M
-position-book-signal-spec =
+pub signal-answer-spec : {M : Type 1} → statement M
+signal-answer-spec =
     tie.close
     (tie.spec
     (λ c κs. search needs)

@@ -3,11 +3,11 @@ use Prim.Native.Nat.{_+_}
 use native.Mathlib.Omega.{arith}
 use lib.Seq.{length-slice}
 use borrow.Author.Needs.{needs}
-use Rattle.position_book.proofs.Laws.{signal-put}
-use Rattle.position_book.proofs.put_signal.Statement.{statement}
-use Rattle.position_book.proofs.put_signal.Tie as tie
-use Rattle.position_book.proofs.put_signal.Reads as reads
-use Rattle.position_book.proofs.put_signal.Lts as lts
+use Rattle.answer_alone.proofs.Laws.{signal-put}
+use Rattle.answer_alone.proofs.put_signal.Statement.{statement}
+use Rattle.answer_alone.proofs.put_signal.Tie as tie
+use Rattle.answer_alone.proofs.put_signal.Reads as reads
+use Rattle.answer_alone.proofs.put_signal.Lts as lts
 
 put-part-requires-2 : tie.Need-put-part-requires-2
 put-part-requires-2 c κs =
@@ -33,7 +33,8 @@ returns c =
     let u = t .before .before .before .before in
     let v = u .before .before .before .before in
     let w = v .before .before .before .before in
-    signal-put (w .before .before .before .before .args .a) (w .put-key .ensures .put) (v .put-part .ensures) (u .put-part2 .ensures) (t .put-part3 .ensures)
+    let b = w .before .before .before .before in
+    signal-put (b .args .text .now) (b .args .a) (w .put-key .ensures .put) (v .put-part .ensures) (u .put-part2 .ensures) (t .put-part3 .ensures)
 
 pub put-signal-spec : {M : Type 1} → statement M
 put-signal-spec =

@@ -1,4 +1,4 @@
--- Laws of the exported calls' definitions, for the proofs. Assumes nothing.
+-- Laws of the calls' definitions, for the proofs. Assumes nothing.
 use mathlib.Core.Path.{_≡_, _∙_, ap}
 use mathlib.Core.List.{List, []}
 use Prim.Native.Nat.{ℕ, _-_, _≤_, _<_}
@@ -16,19 +16,17 @@ use Rattle.operate.proofs.Laws.{name-none, name-is}
 use Rattle.signal.specs.Signal.{Signal, signalAlone}
 use Rattle.signal.specs.Read.{signalIn}
 use Rattle.signal.specs.declared.SignalAt.{SignalAt}
-use Rattle.answer.specs.Rows.{nameAnswer}
-use Rattle.answer.specs.declared.NameAnswer.{NameAnswer}
-use Rattle.position_book.specs.Calls.{signalDo, signalAnswer, signalBytes, nameDo, nameBytes}
-use Rattle.position_book.specs.Read.{SignalPut}
-use Rattle.position_book.specs.declared.SignalAnswer.{SignalAnswer}
+use Rattle.answer_alone.specs.Calls.{signalDo, signalAnswer, signalBytes, SignalIs, nameDo, nameAnswer, nameBytes, NameIs}
+use Rattle.answer_alone.specs.declared.SignalAnswer.{SignalAnswer}
+use Rattle.answer_alone.specs.declared.NameAnswer.{NameAnswer}
 
 -- ---- a signal alone
 
 -- what a signal says, written text by text
-pub signal-put : {text l m n o z : List ℕ} (a : SignalAt) {k p q r : ℕ}
+pub signal-put : (text : List ℕ) {l m n o z : List ℕ} (a : SignalAt) {k p q r : ℕ}
     → Put l m 0 (signalIn text a .key) k → Put m n k (signalIn text a .v1) p → Put n o p (signalIn text a .v2) q → Put o z q (signalIn text a .v3) r
-    → SignalPut text l z a (record { number = 0; score = a .score; key = k; v1 = p - k; v2 = q - p; v3 = r - q })
-signal-put {text} a {k} {p} {q} {r} x y u v = record { answer = rw (third, second, first, key); bytes = put-put (put-put (put-put x y) u) v .written }
+    → SignalIs (Got (signalIn text a)) l z (record { number = 0; score = a .score; key = k; v1 = p - k; v2 = q - p; v3 = r - q })
+signal-put text a {k} {p} {q} {r} x y u v = (rw (third, second, first, key), put-put (put-put (put-put x y) u) v .written)
   where
     key : k ≡ length (signalIn text a .key)
     key = omega (arith, x .end)
@@ -56,17 +54,15 @@ module _ (text out : List ℕ) where
   signal-done e h = rw (← e, le-leb (length text) (length out) h)
 
   -- the call's whole result, from the case that applies
-  pub signal-case : {o : Answer Signal} {r : SignalAnswer} {after : List ℕ} → o ≡ signalDo text out → r ≡ signalAnswer o → after ≡ signalBytes o out
-      → (r ≡ signalAnswer (signalDo text out)) × (after ≡ signalBytes (signalDo text out) out)
-  signal-case e p q = (p ∙ ap signalAnswer e, q ∙ ap (λ o. signalBytes o out) e)
+  pub signal-case : {o : Answer Signal} {r : SignalAnswer} {after : List ℕ} → o ≡ signalDo text out → r ≡ signalAnswer o → after ≡ signalBytes out o → SignalIs (signalDo text out) out after r
+  signal-case e p q = (p ∙ ap signalAnswer e, q ∙ ap (signalBytes out) e)
 
 -- ---- an operate's name
 
 module _ (code : ℕ) (out : List ℕ) where
   -- the same of a name
-  pub name-case : {o : Answer (List ℕ)} {r : NameAnswer} {after : List ℕ} → o ≡ nameDo code out → r ≡ nameAnswer o → after ≡ nameBytes o out
-      → (r ≡ nameAnswer (nameDo code out)) × (after ≡ nameBytes (nameDo code out) out)
-  name-case e p q = (p ∙ ap nameAnswer e, q ∙ ap (λ o. nameBytes o out) e)
+  pub name-case : {o : Answer (List ℕ)} {r : NameAnswer} {after : List ℕ} → o ≡ nameDo code out → r ≡ nameAnswer o → after ≡ nameBytes out o → NameIs (nameDo code out) out after r
+  name-case e p q = (p ∙ ap nameAnswer e, q ∙ ap (nameBytes out) e)
 
   pub name-unknown : 7 ≤ code → Refused 4 ≡ nameDo code out
   unfolding nameDo
@@ -86,7 +82,7 @@ module _ (code : ℕ) (out : List ℕ) where
 
     -- the array, copied whole to the start
     pub name-put : {after : List ℕ} {r : ℕ} → Put out after 0 (slice 0 6 name) r
-        → (record { number = 0; length = r } ≡ nameAnswer (Got (getD chinese code []))) × (after ≡ nameBytes (Got (getD chinese code [])) out)
+        → NameIs (Got (getD chinese code [])) out after (record { number = 0; length = r })
     name-put {after} {r} p =
         let whole : slice 0 6 name ≡ getD chinese code [] = rw (n .size, take-length name) (n .is) in
         let q : Put out after 0 (getD chinese code []) r = rw whole at p in
