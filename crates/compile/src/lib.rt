@@ -4,7 +4,7 @@ use codes::note_keys;
 use codes::note_values;
 use sheet::SheetAt;
 use sheet::SheetRead;
-use sheet::read_sheet;
+use sheet_read::read_sheet;
 use table::TABLE_LENGTH;
 use writer::put_table;
 ghost use mathlib.Core.Path.{_≡_};
