@@ -10,13 +10,14 @@ use Rattle.book.specs.Calls.{feedDo}
 use Rattle.rows.specs.Calls.{pairRow, pairDo, holdDo, eventNameDo}
 use Rattle.blocks.specs.Blocks.{holdBlockDo, pairBlockDo, countsDo, blockOf}
 use Rattle.blocks.specs.declared.RowCounts.{RowCounts}
-use Rattle.answer.specs.Rows.{feedAnswer, pairAnswer, holdAnswer, blockAnswer, countsAnswer, nameAnswer}
+use Rattle.answer.specs.Rows.{feedAnswer, pairAnswer, holdAnswer, blockAnswer, countsAnswer}
+use Rattle.answer_alone.specs.Calls.{nameAnswer}
 use Rattle.answer.specs.declared.FeedAnswer.{FeedAnswer}
 use Rattle.answer.specs.declared.PairAnswer.{PairAnswer}
 use Rattle.answer.specs.declared.HoldAnswer.{HoldAnswer}
 use Rattle.answer.specs.declared.BlockAnswer.{BlockAnswer}
 use Rattle.answer.specs.declared.CountsAnswer.{CountsAnswer}
-use Rattle.answer.specs.declared.NameAnswer.{NameAnswer}
+use Rattle.answer_alone.specs.declared.NameAnswer.{NameAnswer}
 use Rattle.history.specs.Calls.{Request, PairRow, HoldRow, PairRows, HoldRows, Counts, EventName, Call, Fresh, Feed, Save, Restore, Ask, asked, Answered, numbered, answered, after, bookAfter, Done, doneFrom}
 use Rattle.contracts.specs.Run.{Answers, Did, Ran}
 

@@ -17,7 +17,7 @@ use Rattle.answer.specs.declared.PairAnswer.{PairAnswer}
 use Rattle.answer.specs.declared.HoldAnswer.{HoldAnswer}
 use Rattle.answer.specs.declared.BlockAnswer.{BlockAnswer}
 use Rattle.answer.specs.declared.CountsAnswer.{CountsAnswer}
-use Rattle.answer.specs.declared.NameAnswer.{NameAnswer}
+use Rattle.answer_alone.specs.declared.NameAnswer.{NameAnswer}
 use Rattle.position_book.specs.Results.{CompileIs, StoreIs, FeedIs, PairIs, BlockIs, EventNameIs}
 
 -- What the contract of a request says on the book b, where the number n was answered. `out` is the lent buffer at exit.
