@@ -16,6 +16,7 @@ use Rattle.text.proofs.Refusals.{Gives, refuses, gives, then-with}
 use Rattle.utf8.specs.Alone.{textLimit, text}
 use Rattle.utf8.specs.Utf8.{utf8}
 use Rattle.operate.specs.Operate.{latin, chinese, codeFrom, operateOf}
+use Rattle.signal.proofs.Keys.{key-length}
 use Rattle.signal.specs.Signal.{Signal, keyOf, scoreLimit, score, signalOf}
 use Rattle.signal.proofs.Says.{score-low}
 use Rattle.sheet.specs.Sheet.{Kind, Clause, nameLimit}
@@ -25,7 +26,7 @@ use Rattle.fine.specs.Fine.{valueOk, operateLimit, fineClause, clauseWei
 use Rattle.text.proofs.Every.{every-three}
 use Rattle.text.proofs.Joined.{lacks, total-next, split-length}
 use Rattle.fine.proofs.Lines.{part-clean, part-lacks}
-use Rattle.fine.proofs.Words.{value-ok, key-ok, key-length}
+use Rattle.fine.proofs.Words.{value-ok, key-ok}
 use Rattle.fine.proofs.Facts.{clause-sure}
 use Rattle.fine.proofs.Given.{must-test, given-some, gives-also}
 

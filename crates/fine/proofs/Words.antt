@@ -102,9 +102,3 @@ module _ (a b c : List ℕ) where
   key-ok h k =
       word-joined keyParts (withoutWild three) (omega arith) (without-few three .0) (without-every clean three h) (without-every (lacks underscore) three k)
       (without-tame three)
-
-  pub key-length : length (keyOf a b c) ≤ length a + length b + length c + 2
-  unfolding keyOf total
-  key-length =
-      let few = without-few three in
-      omega (arith, joined-length underscore (withoutWild three), few .0, few .1)

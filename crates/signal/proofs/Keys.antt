@@ -10,7 +10,7 @@ use Rattle.text.specs.Text.{same, joined, underscore}
 use Rattle.text.specs.Read.{Part, Put}
 use Rattle.text.proofs.Put.{put-none, put-put}
 use Rattle.signal.specs.Signal.{wildcard, withoutWild, keyOf}
-use Rattle.signal.specs.Read.{signalIn, keyPart, KeyPut}
+use Rattle.signal.specs.Read.{signalIn, SignalOk, keyPart, KeyPut}
 use Rattle.signal.specs.declared.SignalAt.{SignalAt}
 use Rattle.signal.specs.declared.KeyEnd.{KeyEnd}
 
@@ -74,6 +74,35 @@ three-sizes a b c =
     sym (length-append (keyPart false a ++ keyPart (false || not (same a wildcard)) b) (keyPart (false || not (same a wildcard) || not (same b wildcard)) c)
     ∙ ap (λ (k : ℕ). k + length (keyPart (false || not (same a wildcard) || not (same b wildcard)) c)) (length-append (keyPart false a) (keyPart (false || not (same a wildcard)) b)))
     ∙ ap length (three-parts a b c)
+
+first-length : (p : List ℕ) → length (keyPart false p) ≤ length p
+first-length p = go (same p wildcard)
+  where
+    go : (t : Bool) → length (cond t [] p) ≤ length p
+    go true = omega arith
+    go false = omega arith
+
+next-length : (some : Bool) (p : List ℕ) → length (keyPart some p) ≤ length p + 1
+next-length some p = go (same p wildcard) some
+  where
+    go : (t u : Bool) → length (cond t [] (cond u (underscore ∷ p) p)) ≤ length p + 1
+    go true u = omega arith
+    go false true = omega arith
+    go false false = omega arith
+
+pub key-length : (a b c : List ℕ) → length (keyOf a b c) ≤ length a + length b + length c + 2
+key-length a b c =
+    let second = next-length (false || not (same a wildcard)) b in
+    let third = next-length (false || not (same a wildcard) || not (same b wildcard)) c in
+    omega (arith, three-sizes a b c, first-length a, second, third)
+
+-- a signal's key is no longer than what stands before its values
+pub key-short : (s : List ℕ) (a : SignalAt) → SignalOk s a → length (signalIn s a .key) ≤ a .k3
+key-short s a ok =
+    let one = length-slice 0 (a .k1) s (omega arith) in
+    let two = length-slice (a .k1 + 1) (a .k2) s (omega arith) in
+    let three = length-slice (a .k2 + 1) (a .k3) s (omega arith) in
+    omega (arith, key-length (slice 0 (a .k1) s) (slice (a .k1 + 1) (a .k2) s) (slice (a .k2 + 1) (a .k3) s), one, two, three, ok .k1-k2, ok .k2-k3)
 
 -- room for a key is room for each part behind those before it
 module _ (s : List ℕ) (a : SignalAt) (at : ℕ) (l : List ℕ) (h : at + length (signalIn s a .key) ≤ length l) where

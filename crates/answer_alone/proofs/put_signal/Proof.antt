@@ -3,11 +3,17 @@ use Prim.Native.Nat.{_+_}
 use native.Mathlib.Omega.{arith}
 use lib.Seq.{length-slice}
 use borrow.Author.Needs.{needs}
+use Rattle.signal.proofs.Keys.{key-short}
 use Rattle.answer_alone.proofs.Laws.{signal-put}
 use Rattle.answer_alone.proofs.put_signal.Statement.{statement}
 use Rattle.answer_alone.proofs.put_signal.Tie as tie
 use Rattle.answer_alone.proofs.put_signal.Reads as reads
 use Rattle.answer_alone.proofs.put_signal.Lts as lts
+
+put-key-requires : tie.Need-put-key-requires
+put-key-requires c κs =
+    let b = c .before .before .before in
+    (search needs, omega (arith, key-short (b .args .text .now) (b .args .a) (b .pre .0)))
 
 put-part-requires-2 : tie.Need-put-part-requires-2
 put-part-requires-2 c κs =
@@ -40,7 +46,7 @@ pub put-signal-spec : {M : Type 1} → statement M
 put-signal-spec =
     tie.close
     (tie.spec
-    (λ c κs. search needs)
+    put-key-requires
     (λ c. search needs)
     (λ c κs. search needs)
     (λ c. search needs)
