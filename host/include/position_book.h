@@ -1,6 +1,8 @@
-/* The exported calls of libposition_book.a, for C. No call asks anything of its caller: whatever the bytes and numbers are, it ends within
-   its buffers with document 01's number (0: done), and a refusal changes no byte. Buffers that one call is lent must not overlap.
-   tests/declarations.rs holds these declarations to the exported signatures. */
+/* The exported calls of libposition_book.a, for C. A call asks one thing of its caller: room on the stack, of
+   POSITION_BOOK_COMPILE_STACK bytes (compile) or POSITION_BOOK_CALL_STACK (every other). Beside that nothing: whatever the
+   bytes and numbers are, it ends within its buffers with document 01's number (0: done), and a refusal changes no byte.
+   Buffers that one call is lent must not overlap.
+   tests/declarations.rs holds these declarations to the exported signatures, tests/stack.rs the figures to the archive. */
 #ifndef POSITION_BOOK_H
 #define POSITION_BOOK_H
 
@@ -16,6 +18,10 @@ extern "C" {
 #define POSITION_BOOK_ROW_BUFFER 2048
 #define POSITION_BOOK_NAME_LIMIT 256
 #define POSITION_BOOK_LENGTH(c) (96 + 64 * (size_t)(c))
+
+/* The bytes of the stack that compile needs, and those that any other call needs. */
+#define POSITION_BOOK_COMPILE_STACK 65536
+#define POSITION_BOOK_CALL_STACK 16384
 
 /* The length of a name. */
 typedef struct {
@@ -106,7 +112,8 @@ uint32_t position_book_save(const uint8_t *table, size_t table_length, const uin
 /* Copies the image back to the book. */
 uint32_t position_book_restore(const uint8_t *table, size_t table_length, uint8_t *book, size_t book_length, const uint8_t *image, size_t image_length);
 
-/* A pair row of the book by its index; its symbol, mark and sequence go one after another to the start of the buffer. */
+/* A pair row of the book by its index; its symbol, mark and sequence go one after another to the start of the buffer, which
+   must have 2,048 bytes or more. */
 PairAnswer position_book_pair_row(const uint8_t *table, size_t table_length, const uint8_t *book, size_t book_length, int64_t index, uint8_t *buffer, size_t buffer_length);
 
 /* A hold row of the book by its index. */
@@ -123,7 +130,7 @@ BlockAnswer position_book_hold_rows(const uint8_t *table, size_t table_length, c
 /* How many hold rows and pair rows the book has. */
 CountsAnswer position_book_counts(const uint8_t *table, size_t table_length, const uint8_t *book, size_t book_length);
 
-/* The name of an event of the table by its index, to the start of the buffer. */
+/* The name of an event of the table by its index, to the start of the buffer, which must have 256 bytes or more. */
 NameAnswer position_book_event_name(const uint8_t *table, size_t table_length, int64_t index, uint8_t *buffer, size_t buffer_length);
 
 /* Reads a signal alone. Its key and values go one after another to the start of out, which must not be shorter than the text. */
@@ -132,7 +139,7 @@ SignalAnswer position_book_signal(const uint8_t *text, size_t text_length, uint8
 /* Reads an operate alone, in either spelling. */
 OperateAnswer position_book_operate(const uint8_t *text, size_t text_length);
 
-/* Writes the Chinese name of an operate's code to the start of out. */
+/* Writes the Chinese name of an operate's code to the start of out, which must have 6 bytes or more. */
 NameAnswer position_book_operate_name(uint32_t code, uint8_t *out, size_t out_length);
 
 #ifdef __cplusplus

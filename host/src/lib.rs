@@ -3,7 +3,8 @@
 //! A sheet is compiled to a [`Table`]; a [`Book`] is fed bars with their signals, says after each bar whether the member is long, flat or
 //! short and what decided it, keeps every trade pair and every hold's yield, and can be saved and restored. The work is done by the static
 //! library `position_book`, every function of which is proved to meet its contract; this crate lends it slices and turns its numbers into
-//! Rust's results. [`raw`] has the calls as they are.
+//! Rust's results. [`raw`] has the calls as they are. They need room on the stack: [`raw::COMPILE_STACK`] bytes to compile a sheet,
+//! [`raw::CALL_STACK`] for all else.
 //!
 //! ```
 //! use position_book::{Bar, Book, Pos, Refusal, Table, signal_lines};

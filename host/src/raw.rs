@@ -1,7 +1,8 @@
 //! The exported calls as they are: numbers and byte slices in, document 01's number and values out.
 //!
-//! Each function is safe, because no call asks anything of its caller: whatever the bytes and numbers are, it ends within its buffers,
-//! and a refusal changes no byte. `include/position_book.h` declares the same calls for C.
+//! Each function is safe, because no call asks anything of its caller but room on the stack ([`COMPILE_STACK`],
+//! [`CALL_STACK`]): whatever the bytes and numbers are, it ends within its buffers, and a refusal changes no byte.
+//! `include/position_book.h` declares the same calls for C.
 
 /// The bytes of a table.
 pub const TABLE_LENGTH: usize = 32_768;
@@ -17,6 +18,13 @@ pub const PAIR_ROW_LIMIT: usize = 88 + ROW_BUFFER;
 
 /// The most bytes of an event's name.
 pub const NAME_LIMIT: usize = 256;
+
+/// The bytes of the stack that [`compile`] needs. A thread that has less left when it calls ends the process, as in any
+/// Rust function that finds no stack. `tests/stack.rs` reads from the archive what a call uses.
+pub const COMPILE_STACK: usize = 65_536;
+
+/// The bytes of the stack that every other call needs.
+pub const CALL_STACK: usize = 16_384;
 
 /// The bytes of a book for so many bars.
 pub const fn book_length(capacity: usize) -> usize {
@@ -344,7 +352,7 @@ pub fn counts(table: &[u8], book: &[u8]) -> CountsAnswer {
     unsafe { calls::position_book_counts(table.as_ptr(), table.len(), book.as_ptr(), book.len()) }
 }
 
-/// The name of an event of the table by its index, to the start of the buffer.
+/// The name of an event of the table by its index, to the start of the buffer, which must have [`NAME_LIMIT`] bytes or more.
 pub fn event_name(table: &[u8], index: i64, buffer: &mut [u8]) -> NameAnswer {
     unsafe {
         calls::position_book_event_name(
@@ -367,7 +375,7 @@ pub fn operate(text: &[u8]) -> OperateAnswer {
     unsafe { calls::position_book_operate(text.as_ptr(), text.len()) }
 }
 
-/// Writes the Chinese name of an operate's code to the start of `out`.
+/// Writes the Chinese name of an operate's code to the start of `out`, which must have 6 bytes or more.
 pub fn operate_name(code: u32, out: &mut [u8]) -> NameAnswer {
     unsafe { calls::position_book_operate_name(code, out.as_mut_ptr(), out.len()) }
 }

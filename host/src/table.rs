@@ -11,7 +11,7 @@ pub struct Table {
 }
 
 impl Table {
-    /// Compiles the text of a sheet.
+    /// Compiles the text of a sheet, with [`raw::COMPILE_STACK`] bytes of the stack.
     ///
     /// ```
     /// use position_book::{Refusal, Table};

@@ -6,10 +6,9 @@ use lib.ListN.{replicate}
 use Rattle.text.specs.Answer.{Got, _>>=_}
 use Rattle.table.proofs.Examples.{soy}
 use Rattle.book.specs.Layout.{freshBook}
-use Rattle.rows.specs.Calls.{pairDo, holdDo}
+use Rattle.rows.specs.Calls.{pairDo, pairRow, holdDo}
 use Rattle.rows.proofs.Opened.{opened}
 use Rattle.rows.proofs.Examples.{fed, firstBar, secondBar, opening, whole}
-use Rattle.pairs.specs.Read.{pairRow}
 use Rattle.answer.specs.Rows.{feedAnswer, pairAnswer, holdAnswer}
 
 -- long, changed, by event 0; then flat, changed, by event 1

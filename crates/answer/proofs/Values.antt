@@ -8,9 +8,9 @@ use Rattle.text.specs.Answer.{Got}
 use Rattle.position.specs.State.{posSign}
 use Rattle.position.specs.declared.HoldRow.{HoldRow}
 use Rattle.position.specs.declared.Report.{Report}
+use Rattle.position.specs.declared.PairRow.{PairRow}
 use Rattle.book.specs.Layout.{flag, yieldFlag}
 use Rattle.blocks.specs.Blocks.{sideSign}
-use Rattle.pairs.specs.declared.PairRow.{PairRow}
 use Rattle.answer.specs.Rows.{decisionCode, decisionEvent, feedAnswer, yieldValue, pairAnswer, holdAnswer}
 
 pub feed-values : (r : Report) {z : ℤ} {t d e : ℕ} → z ≡ posSign (r .pos) → t ≡ flag (r .changed) → d ≡ decisionCode (r .decision) → e ≡ decisionEvent (r .decision)

@@ -1,11 +1,10 @@
--- What a feed and the requests for rows, blocks, counts and names answer to the host: their numbers and values. "Refused rows carry zeros and
--- absent yields." A refused feed, block, count or name has zeros too. Assumes nothing.
+-- What a feed and the requests for rows, blocks and counts answer to the host: their numbers and values. "Refused rows carry zeros and
+-- absent yields." A refused feed, block or count has zeros too. Assumes nothing.
 use Prim.Native.Nat.{ℕ}
 use mathlib.Core.List.{List}
 use lib.IntN.{pos}
 use lib.Ieee.{Float}
-use lib.ListN.{length}
-use Rattle.text.specs.Answer.{Answer, Refused, Got, _>>=_}
+use Rattle.text.specs.Answer.{Answer, Refused, Got}
 use Rattle.double.specs.Double.{whole}
 use Rattle.double.specs.declared.Yield.{Yield}
 use Rattle.double.specs.declared.Yield.the-variants.{Absent, Bp}
@@ -14,12 +13,11 @@ use Rattle.position.specs.Feed.{Accepted}
 use Rattle.position.specs.declared.HoldRow.{HoldRow}
 use Rattle.position.specs.declared.Decision.{Decision}
 use Rattle.position.specs.declared.Decision.the-variants.{Nothing, By}
+use Rattle.position.specs.declared.PairRow.{PairRow}
 use Rattle.book.specs.Layout.{flag, yieldFlag, descriptionCode, descriptionEvent}
 use Rattle.blocks.specs.Blocks.{sideSign}
 use Rattle.blocks.specs.declared.Block.{Block}
 use Rattle.blocks.specs.declared.RowCounts.{RowCounts}
-use Rattle.pairs.specs.declared.PairRow.{PairRow}
-use Rattle.answer.specs.declared.NameAnswer.{NameAnswer}
 use Rattle.answer.specs.declared.FeedAnswer.{FeedAnswer}
 use Rattle.answer.specs.declared.PairAnswer.{PairAnswer}
 use Rattle.answer.specs.declared.HoldAnswer.{HoldAnswer}
@@ -98,13 +96,3 @@ blockAnswer (Got q) = record { number = 0; rows = q .rows; length = q .length }
 abbrev pub countsAnswer : Answer RowCounts → CountsAnswer
 countsAnswer (Refused n) = record { number = n; holds = 0; pairs = 0 }
 countsAnswer (Got q) = record { number = 0; holds = q .holds; pairs = q .pairs }
-
--- ---- names
-
--- a name's length, since the buffer has the name
-abbrev pub lengthAnswer : Answer ℕ → NameAnswer
-lengthAnswer (Refused n) = record { number = n; length = 0 }
-lengthAnswer (Got n) = record { number = 0; length = n }
-
-abbrev pub nameAnswer : Answer (List ℕ) → NameAnswer
-nameAnswer a = lengthAnswer (a >>= λ name. Got (length name))

@@ -1,4 +1,5 @@
 // The answers of a feed, of requests for rows, blocks and counts, and of names as the structs that cross to the host: zeros where they are refused.
+use answer_alone::NameAnswer;
 use blocks::BlockRead;
 use blocks::CountsRead;
 use double::Yield;
@@ -10,9 +11,9 @@ use hold_block::present;
 use holds::HoldRead;
 use pair_block::side_sign;
 use pairs::PairRead;
-use pairs::PairRow;
 use position::Decision;
 use position::HoldRow;
+use position::PairRow;
 use position::Report;
 use titles::NameRead;
 ghost use mathlib.Core.Path.{_≡_};
@@ -25,14 +26,8 @@ ghost use Rattle.feed.specs.Feed.{feedOf};
 ghost use Rattle.holds.specs.Read.{holdReadOf};
 ghost use Rattle.pairs.specs.Read.{pairReadOf};
 ghost use Rattle.titles.specs.Read.{nameReadOf};
-ghost use Rattle.answer.specs.Rows.{decisionCode, decisionEvent, feedAnswer, yieldValue, pairAnswer, holdAnswer, blockAnswer, countsAnswer, lengthAnswer};
-
-// The length of a name.
-#[repr(C)]
-pub struct NameAnswer {
-    pub number: u32,
-    pub length: usize,
-}
+ghost use Rattle.answer_alone.specs.Calls.{lengthAnswer};
+ghost use Rattle.answer.specs.Rows.{decisionCode, decisionEvent, feedAnswer, yieldValue, pairAnswer, holdAnswer, blockAnswer, countsAnswer};
 
 // What a feed says: the position after the bar (-1, 0 or 1), whether it changed, and what decided the bar: 0 nothing, 1 an event, 2 the stop,
 // 3 the timeout; the event's index where it is 1.

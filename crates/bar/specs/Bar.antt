@@ -8,6 +8,7 @@ use lib.Ieee.Scale.{finite}
 use Rattle.text.specs.Answer.{Answer, Got, _>>=_, must}
 use Rattle.bar.specs.Time.{localTime, dayOf}
 use Rattle.bar.specs.declared.Time.{Time}
+use Rattle.bar.specs.declared.LocalTime.{LocalTime}
 use Rattle.bar.specs.declared.Bar.{Bar}
 
 -- "id 0..2,147,483,647"
@@ -41,9 +42,9 @@ barOf id instant offset price = do
   Got (record { id = natAbs id; time = record { instant = record { 0 = instant }; offset = offset }; price = price })
 
 -- "a local time counts from the wall clock (instant plus offset)"
-abbrev pub localOf : Time → ℤ
-localOf t = localTime (t .instant .0) (t .offset)
+abbrev pub localOf : Time → LocalTime
+localOf t = record { 0 = localTime (t .instant .0) (t .offset) }
 
 -- the day of a time: that of its wall clock
 abbrev pub dayAt : Time → ℤ
-dayAt t = dayOf (localOf t)
+dayAt t = dayOf (localOf t .0)

@@ -37,7 +37,7 @@ sideSign Short = negsuc 0
 -- lengths of symbol, mark and sequence. Then these texts, as the single call writes them.
 unfoldable pub pairRowBytes : Pair → List ℕ
 pairRowBytes p =
-    (putI32 (sideSign (p .side)) ++ put32 (yieldFlag (p .yield)) ++ putI64 (p .openLocal) ++ putI64 (p .closeLocal) ++ putF64 (p .openPrice) ++ putF64 (p .closePrice))
+    (putI32 (sideSign (p .side)) ++ put32 (yieldFlag (p .yield)) ++ putI64 (p .openLocal .0) ++ putI64 (p .closeLocal .0) ++ putF64 (p .openPrice) ++ putF64 (p .closePrice))
     ++ (putI64 (p .ids) ++ putF64 (p .days) ++ yieldBytes (p .yield) ++ leBytes 8 (length (p .symbol)) ++ leBytes 8 (length (p .mark)) ++ leBytes 8 (length (p .sequence)))
     ++ pairText p
 

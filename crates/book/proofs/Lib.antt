@@ -13,5 +13,7 @@ pub mod Entries
 pub mod Header
 pub mod Passes
 pub mod Ready
+pub mod Stored
+pub mod Sizes
 pub mod Opened
 mod Examples

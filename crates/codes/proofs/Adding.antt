@@ -4,7 +4,7 @@ use native.Mathlib.Omega.{arith}
 use mathlib.Core.Path.{_≡_, refl, ap}
 use mathlib.Core.Bool.{true, false}
 use mathlib.Core.List.{List}
-use lib.ListN.{getD}
+use lib.ListN.{length, getD}
 use Rattle.text.specs.Read.{Put}
 use Rattle.words.specs.Words.{isWild}
 use Rattle.table.specs.Table.{wildCode}
@@ -15,10 +15,10 @@ use Rattle.codes.specs.Read.{Open, KeyAdded, ValueAdded}
 
 -- ---- a text behind the last word
 
-module _ {texts starts orders ranks : List ℕ} {n bytes : ℕ} (o : Open texts starts orders ranks n bytes)
-    {x texts₁ : List ℕ} {to : ℕ} (p : Put texts texts₁ (getD starts n 0) x to) where
+module _ {texts starts orders ranks x : List ℕ} {n : ℕ} (o : Open texts starts orders ranks n (length x))
+    {texts₁ : List ℕ} {to : ℕ} (p : Put texts texts₁ (getD starts n 0) x to) where
   pub put-candidate : Candidate texts₁ starts orders ranks n to
-  put-candidate = candidate-put (o .book) p (o .starts-room) (o .orders-room) (o .ranks-room)
+  put-candidate = candidate-put (o .book) p (omega (arith, o .few)) (omega (arith, o .near, p .end)) (o .starts-room) (o .orders-room) (o .ranks-room)
 
   module _ {starts₁ orders₁ ranks₁ : List ℕ} {r : Noted} (a : NotedIn texts₁ starts orders ranks starts₁ orders₁ ranks₁ n to r) where
     pub key-added : KeyAdded x texts starts orders ranks texts₁ starts₁ orders₁ ranks₁ n r

@@ -20,7 +20,7 @@ pub record Filling (ks : List (List ℕ)) (all : List (List ℕ) → List (List 
   pub le : i ≤ m
   pub filled : Filled texts starts orders ranks numbers texts₁ starts₁ orders₁ ranks₁ numbers₁ i n (total (drop i ks)) (all (take i ks)) (codes (take i ks))
 
-module _ {texts starts orders ranks numbers : List ℕ} {limit m : ℕ} (room : Room texts starts orders ranks numbers limit m)
+module _ {texts starts orders ranks numbers : List ℕ} {m : ℕ} (room : Room texts starts orders ranks numbers m)
     (ks : List (List ℕ)) (all : List (List ℕ) → List (List ℕ)) (codes : List (List ℕ) → List ℕ) where
   pub filling-first : total ks ≤ textLimit → all [] ≡ [] → codes [] ≡ []
       → Filling ks all codes texts starts orders ranks numbers texts starts orders ranks numbers m 0 0
@@ -41,11 +41,13 @@ module _ {texts starts orders ranks numbers : List ℕ} {limit m : ℕ} (room : 
   module _ {texts₁ starts₁ orders₁ ranks₁ numbers₁ : List ℕ} {i n : ℕ}
       (f : Filling ks all codes texts starts orders ranks numbers texts₁ starts₁ orders₁ ranks₁ numbers₁ m i n) where
     -- room for the next
-    pub filling-open : i < m → {size : ℕ} → getD starts₁ n 0 + size ≤ limit → Open texts₁ starts₁ orders₁ ranks₁ n size
+    pub filling-open : i < m → {size : ℕ} → getD starts₁ n 0 + size ≤ textLimit → Open texts₁ starts₁ orders₁ ranks₁ n size
     filling-open h k =
         let l = f .filled .lengths in
         record {
           book = f .filled .book;
+          few = omega (arith, room .few, f .filled .few);
+          near = omega (arith, k);
           texts-room = omega (arith, l .texts-length, room .texts-room);
           starts-room = omega (arith, l .starts-length, room .starts-room, f .filled .few);
           orders-room = omega (arith, l .orders-length, room .orders-room, f .filled .few);

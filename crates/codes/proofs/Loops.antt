@@ -4,7 +4,6 @@ use native.Mathlib.Omega.{arith}
 use mathlib.Core.Path.{refl}
 use mathlib.Core.List.{List, []}
 use lib.ListN.{length, getD, set}
-use Rattle.utf8.specs.Alone.{textLimit}
 use Rattle.text.proofs.Joined.{total-next}
 use Rattle.wordbook.specs.declared.Noted.{Noted}
 use Rattle.draft.specs.Codes.{keysIn, valuesIn, notedAll, numbersOf, valuesNoted, codesOf}
@@ -22,8 +21,8 @@ abbrev pub Keying : List ℕ → List ℕ → ℕ → List ℕ → List ℕ → 
 Keying s cs m texts starts orders ranks numbers texts₁ starts₁ orders₁ ranks₁ numbers₁ i n =
     Filling (keysIn (clausesIn s cs m)) (notedAll []) (numbersOf []) texts starts orders ranks numbers texts₁ starts₁ orders₁ ranks₁ numbers₁ m i n
 
-module _ {s cs : List ℕ} {m : ℕ} (rows : RowsOk s cs m) {texts starts orders ranks numbers : List ℕ} {limit : ℕ}
-    (room : Room texts starts orders ranks numbers limit m) where
+module _ {s cs : List ℕ} {m : ℕ} (rows : RowsOk s cs m) {texts starts orders ranks numbers : List ℕ}
+    (room : Room texts starts orders ranks numbers m) where
   abbrev keys : List (List ℕ)
   keys = keysIn (clausesIn s cs m)
 
@@ -33,8 +32,10 @@ module _ {s cs : List ℕ} {m : ℕ} (rows : RowsOk s cs m) {texts starts orders
 
   module _ {texts₁ starts₁ orders₁ ranks₁ numbers₁ : List ℕ} {i n : ℕ}
       (k : Keying s cs m texts starts orders ranks numbers texts₁ starts₁ orders₁ ranks₁ numbers₁ i n) where
-    pub keying-open : i < m → textLimit + length s ≤ limit → Open texts₁ starts₁ orders₁ ranks₁ n (length s)
-    keying-open h w = filling-open room keys (notedAll []) (numbersOf []) k h (omega (arith, k .filled .end))
+    pub keying-open : i < m → Open texts₁ starts₁ orders₁ ranks₁ n (length (clauseIn s cs i .signal .key))
+    keying-open h =
+        rw (← key-at s cs m i h)
+        (filling-open room keys (notedAll []) (numbersOf []) k h {size = length (getD keys i [])} (omega (arith, k .filled .end, total-next keys i)))
 
     pub keying-more : {texts₂ starts₂ orders₂ ranks₂ : List ℕ} {r : Noted} → i < m
         → KeyAdded (clauseIn s cs i .signal .key) texts₁ starts₁ orders₁ ranks₁ texts₂ starts₂ orders₂ ranks₂ n r
@@ -55,7 +56,7 @@ Coding s cs m texts starts orders ranks codes texts₁ starts₁ orders₁ ranks
     Filling (valuesIn (clausesIn s cs m)) (valuesNoted []) (codesOf []) texts starts orders ranks codes texts₁ starts₁ orders₁ ranks₁ codes₁ (3 * m) j n
 
 module _ {s cs : List ℕ} {m : ℕ} (rows : RowsOk s cs m) {texts starts orders ranks codes : List ℕ}
-    (room : Room texts starts orders ranks codes textLimit (3 * m)) where
+    (room : Room texts starts orders ranks codes (3 * m)) where
   abbrev values : List (List ℕ)
   values = valuesIn (clausesIn s cs m)
 

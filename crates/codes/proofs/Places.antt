@@ -3,13 +3,13 @@ use Prim.Native.Nat.{ℕ, zero, suc, _+_, _-_, _*_, _/_, _%_, _<_, _≤_}
 use native.Mathlib.Omega.{arith}
 use mathlib.Core.Path.{_≡_, refl, sym, ap, _∙_}
 use mathlib.Core.List.{List, [], _∷_}
-use lib.ListN.{length, getD, take, drop, length-take, length-drop, length-map}
-use lib.Seq.{slice, take-all, drop-drop, getD-drop, length-slice}
+use lib.ListN.{length, getD, take, drop, length-drop, length-map}
+use lib.Seq.{slice, take-all, drop-drop, getD-drop}
 use Rattle.list.specs.Numbered.{rows}
 use Rattle.list.proofs.Laws.{rows-length, rows-at, numbered-map, numbered-at}
 use Rattle.text.specs.Read.{Part, Put}
 use Rattle.text.proofs.Laws.{part-size}
-use Rattle.signal.specs.Read.{SignalOk, KeyAt}
+use Rattle.signal.specs.Read.{signalIn, SignalOk, KeyAt}
 use Rattle.signal.specs.declared.SignalAt.{SignalAt}
 use Rattle.sheet.specs.Sheet.{Clause}
 use Rattle.sheet.specs.Places.{clauseNumbers, signalAt, clauseAt, ClauseOk}
@@ -87,10 +87,9 @@ module _ (s cs : List ℕ) (i : ℕ) (r : RowOk s cs i) where
     pub key-signal : SignalOk (take (length s - start) (drop start s)) a
     key-signal = rw (rest-is, e) (r .clause .signal)
 
-    pub key-short : a .k3 + 1 ≤ length s
-    key-short =
-        let o = key-signal in
-        omega (arith, o .k3-v1, o .v1-v2, o .v2-v3, o .within, length-take (length s - start) (drop start s))
+    pub key-is : signalIn (take (length s - start) (drop start s)) a .key ≡ clauseIn s cs i .signal .key
+    unfolding clauseAt
+    key-is = rw (rest-is, e)
 
     pub key-put : {l m : List ℕ} {at to : ℕ} → KeyAt l m at (take (length s - start) (drop start s)) a to → Put l m at (clauseIn s cs i .signal .key) to
     unfolding clauseAt
@@ -158,6 +157,3 @@ module _ (s cs : List ℕ) (j : ℕ) where
           let e : getD cs (at + 1) 0 + getD cs before 0 + 1 ≡ getD cs (at + 1) 0 + (getD cs before 0 + 1) = omega arith in
           rw (e, ← slice-behind (getD cs (at + 1) 0) (getD cs before 0 + 1) (getD cs (before + 1) 0) s, ← from-is, ← before-is, ← behind-is)
           (place-value s (drop at cs) (j % 3) (omega arith))
-
-pub stands-length : {s cs : List ℕ} {j a b : ℕ} → Stands s cs j a b → length (valueIn s cs j) ≡ b - a
-stands-length {s} {cs} {j} {a} {b} x = sym (ap length (x .is)) ∙ length-slice a b s (x .part .within)

@@ -38,18 +38,21 @@ pub record RowsOk (s cs : List ℕ) (m : ℕ) : Type 0 where
 
 -- ---- buffers
 
--- no word yet, and room for m words of so many bytes, and for m numbers
-pub record Room (texts starts orders ranks numbers : List ℕ) (bytes m : ℕ) : Type 0 where
+-- no word yet, and room for m words as long together as a text may be, and for m numbers, which fit two bytes
+pub record Room (texts starts orders ranks numbers : List ℕ) (m : ℕ) : Type 0 where
   pub first : getD starts 0 0 ≡ 0
-  pub texts-room : bytes ≤ length texts
+  pub few : m < 65536
+  pub texts-room : textLimit ≤ length texts
   pub starts-room : m < length starts
   pub orders-room : m ≤ length orders
   pub ranks-room : m ≤ length ranks
   pub numbers-room : m ≤ length numbers
 
--- n words, and room for one more, for which so many bytes are written
+-- n words, and room for one more, for which so many bytes are written; its code and its end fit two bytes
 pub record Open (texts starts orders ranks : List ℕ) (n bytes : ℕ) : Type 0 where
   pub book : Book texts starts orders ranks n
+  pub few : n + 1 < 65536
+  pub near : getD starts n 0 + bytes < 65536
   pub texts-room : getD starts n 0 + bytes ≤ length texts
   pub starts-room : n + 1 < length starts
   pub orders-room : n < length orders

@@ -4,31 +4,32 @@ use sheet::CLAUSE_NUMBERS;
 use signal::SignalAt;
 use signal::is_wild;
 use signal::put_key;
-use table::WILD_CODE;
 use text::put_part;
 use wordbook::Noted;
 use wordbook::note;
 ghost use mathlib.Core.Path.{_≡_};
-ghost use Prim.Native.Nat.{_+_, _-_, _*_, _/_, _≤_};
+ghost use Prim.Native.Nat.{_+_, _*_, _/_, _≤_};
 ghost use lib.ListN.{length, drop};
 ghost use lib.Seq.{slice};
 ghost use Rattle.text.specs.Read.{Part};
-ghost use Rattle.utf8.specs.Alone.{textLimit};
 ghost use Rattle.sheet.specs.Places.{clauseNumbers, signalAt};
 ghost use Rattle.codes.specs.Read.{clauseIn, valueIn, RowOk, RowsOk, Room, Open, KeyAdded, ValueAdded, KeysNoted, ValuesCoded};
 
+// The code of the wildcard.
+const WILD_CODE: u16 = table::WILD_CODE as u16;
+
 // The signal of the clause whose numbers start at `at`.
-fn signal_at(cs: &[usize], at: usize) -> SignalAt
+fn signal_at(cs: &[u16], at: usize) -> SignalAt
     requires { ⌜ at + clauseNumbers ≤ length (now cs) ⌝ }
     ensures { λ r. ⌜ r ≡ signalAt (drop at (now (cs .entry))) ⌝ }
 {
     SignalAt {
-        k1: cs[at + 2],
-        k2: cs[at + 3],
-        k3: cs[at + 4],
-        v1: cs[at + 5],
-        v2: cs[at + 6],
-        v3: cs[at + 7],
+        k1: cs[at + 2] as usize,
+        k2: cs[at + 3] as usize,
+        k3: cs[at + 4] as usize,
+        v1: cs[at + 5] as usize,
+        v2: cs[at + 6] as usize,
+        v3: cs[at + 7] as usize,
         score: cs[at + 8] as u64,
     }
 }
@@ -36,21 +37,21 @@ fn signal_at(cs: &[usize], at: usize) -> SignalAt
 // Writes the key of clause i behind the last of n words, and notes it.
 fn note_key(
     s: &[u8],
-    cs: &[usize],
+    cs: &[u16],
     i: usize,
     texts: &mut [u8],
-    starts: &mut [usize],
-    orders: &mut [usize],
-    ranks: &mut [usize],
+    starts: &mut [u16],
+    orders: &mut [u16],
+    ranks: &mut [u16],
     n: usize,
 ) -> Noted
     requires { ⌜ RowOk (now s) (now cs) i ⌝ }
-    requires { ⌜ Open (now texts) (now starts) (now orders) (now ranks) n (length (now s)) ⌝ }
+    requires { ⌜ Open (now texts) (now starts) (now orders) (now ranks) n (length (clauseIn (now s) (now cs) i .signal .key)) ⌝ }
     ensures { λ r. ⌜ KeyAdded (clauseIn (now (s .entry)) (now (cs .entry)) i .signal .key) (now (texts .entry)) (now (starts .entry)) (now (orders .entry)) (now (ranks .entry)) (now (texts .exit)) (now (starts .exit)) (now (orders .exit)) (now (ranks .exit)) n r ⌝ }
 {
     let at = CLAUSE_NUMBERS * i;
-    let from = cs[at + 1];
-    let end = starts[n];
+    let from = cs[at + 1] as usize;
+    let end = starts[n] as usize;
     let to = put_key(texts, end, &s[from..], signal_at(cs, at));
     note(texts, starts, orders, ranks, n, to)
 }
@@ -58,17 +59,16 @@ fn note_key(
 // Notes the keys of m clauses, writes their numbers, and answers how many keys there are.
 pub fn note_keys(
     s: &[u8],
-    cs: &[usize],
+    cs: &[u16],
     m: usize,
     texts: &mut [u8],
-    starts: &mut [usize],
-    orders: &mut [usize],
-    ranks: &mut [usize],
-    numbers: &mut [usize],
+    starts: &mut [u16],
+    orders: &mut [u16],
+    ranks: &mut [u16],
+    numbers: &mut [u16],
 ) -> usize
     requires { ⌜ RowsOk (now s) (now cs) m ⌝ }
-    requires { ⌜ length (now s) ≤ textLimit ⌝ }
-    requires { ⌜ Room (now texts) (now starts) (now orders) (now ranks) (now numbers) (2 * textLimit) m ⌝ }
+    requires { ⌜ Room (now texts) (now starts) (now orders) (now ranks) (now numbers) m ⌝ }
     ensures { λ r. ⌜ KeysNoted (now (s .entry)) (now (cs .entry)) m (now (texts .entry)) (now (starts .entry)) (now (orders .entry)) (now (ranks .entry)) (now (numbers .entry)) (now (texts .exit)) (now (starts .exit)) (now (orders .exit)) (now (ranks .exit)) (now (numbers .exit)) r ⌝ }
 {
     let mut n: usize = 0;
@@ -89,13 +89,13 @@ fn note_value(
     from: usize,
     to: usize,
     texts: &mut [u8],
-    starts: &mut [usize],
-    orders: &mut [usize],
-    ranks: &mut [usize],
+    starts: &mut [u16],
+    orders: &mut [u16],
+    ranks: &mut [u16],
     n: usize,
 ) -> Noted
     requires { ⌜ Part (now s) from to ⌝ }
-    requires { ⌜ Open (now texts) (now starts) (now orders) (now ranks) n (to - from) ⌝ }
+    requires { ⌜ Open (now texts) (now starts) (now orders) (now ranks) n (length (slice from to (now s))) ⌝ }
     ensures { λ r. ⌜ ValueAdded (slice from to (now (s .entry))) (now (texts .entry)) (now (starts .entry)) (now (orders .entry)) (now (ranks .entry)) (now (texts .exit)) (now (starts .exit)) (now (orders .exit)) (now (ranks .exit)) n r ⌝ }
 {
     if is_wild(s, from, to) {
@@ -104,7 +104,7 @@ fn note_value(
             count: n,
         };
     }
-    let end = starts[n];
+    let end = starts[n] as usize;
     let behind = put_part(texts, end, s, from, to);
     let r = note(texts, starts, orders, ranks, n, behind);
     Noted {
@@ -116,12 +116,12 @@ fn note_value(
 // Notes value j: the first, second or third of clause j / 3. It stands between two of the clause's places, one next to the other.
 fn note_value_at(
     s: &[u8],
-    cs: &[usize],
+    cs: &[u16],
     j: usize,
     texts: &mut [u8],
-    starts: &mut [usize],
-    orders: &mut [usize],
-    ranks: &mut [usize],
+    starts: &mut [u16],
+    orders: &mut [u16],
+    ranks: &mut [u16],
     n: usize,
 ) -> Noted
     requires { ⌜ RowOk (now s) (now cs) (j / 3) ⌝ }
@@ -129,26 +129,26 @@ fn note_value_at(
     ensures { λ r. ⌜ ValueAdded (valueIn (now (s .entry)) (now (cs .entry)) j) (now (texts .entry)) (now (starts .entry)) (now (orders .entry)) (now (ranks .entry)) (now (texts .exit)) (now (starts .exit)) (now (orders .exit)) (now (ranks .exit)) n r ⌝ }
 {
     let at = CLAUSE_NUMBERS * (j / 3);
-    let from = cs[at + 1];
+    let from = cs[at + 1] as usize;
     let before = at + 4 + j % 3;
-    let a = from + cs[before] + 1;
-    let b = from + cs[before + 1];
+    let a = from + cs[before] as usize + 1;
+    let b = from + cs[before + 1] as usize;
     note_value(s, a, b, texts, starts, orders, ranks, n)
 }
 
 // Notes the values of m clauses, three each, writes their codes, and answers how many values there are.
 pub fn note_values(
     s: &[u8],
-    cs: &[usize],
+    cs: &[u16],
     m: usize,
     texts: &mut [u8],
-    starts: &mut [usize],
-    orders: &mut [usize],
-    ranks: &mut [usize],
-    codes: &mut [usize],
+    starts: &mut [u16],
+    orders: &mut [u16],
+    ranks: &mut [u16],
+    codes: &mut [u16],
 ) -> usize
     requires { ⌜ RowsOk (now s) (now cs) m ⌝ }
-    requires { ⌜ Room (now texts) (now starts) (now orders) (now ranks) (now codes) textLimit (3 * m) ⌝ }
+    requires { ⌜ Room (now texts) (now starts) (now orders) (now ranks) (now codes) (3 * m) ⌝ }
     ensures { λ r. ⌜ ValuesCoded (now (s .entry)) (now (cs .entry)) m (now (texts .entry)) (now (starts .entry)) (now (orders .entry)) (now (ranks .entry)) (now (codes .entry)) (now (texts .exit)) (now (starts .exit)) (now (orders .exit)) (now (ranks .exit)) (now (codes .exit)) r ⌝ }
 {
     let mut n: usize = 0;

@@ -1,20 +1,14 @@
 -- What compiling promises, from what its parts answer. Assumes nothing.
-use Prim.Native.Nat.{ℕ, _≤_}
+use Prim.Native.Nat.{ℕ}
 use mathlib.Core.Bool.{true}
-use mathlib.Core.Option.{none}
 use mathlib.Core.List.{List}
 use mathlib.Core.Path.{_≡_, refl, sym, subst, _∙_}
 use mathlib.Core.Logic.{_≢_}
-use borrow.Author.Tests.{eq-eqb, ne-eqb, leb-true}
-use lib.Dec.{leb}
+use borrow.Author.Tests.{eq-eqb, ne-eqb}
 use lib.ListN.{length}
-use Rattle.text.specs.Answer.{Refused, Got, _>>=_, must, given}
-use Rattle.text.specs.Text.{LF, split, eachLine}
-use Rattle.text.proofs.Answers.{got-from, must-got}
-use Rattle.utf8.specs.Utf8.{utf8}
-use Rattle.utf8.specs.Alone.{text, textLimit}
+use Rattle.text.specs.Answer.{Refused, Got}
 use Rattle.sheet.specs.Sheet.{Sheet}
-use Rattle.sheet.specs.Read.{sheetLine, readSheet}
+use Rattle.sheet.specs.Read.{readSheet}
 use Rattle.sheet.specs.Places.{sheetAt, SheetAs}
 use Rattle.sheet.specs.declared.SheetAt.{SheetAt}
 use Rattle.sheet.specs.declared.SheetRead.{SheetRead}
@@ -33,13 +27,6 @@ use Rattle.compile.specs.declared.Outcome.the-variants.{Done, WrongLengt
 pub written-means : {s es cs : List ℕ} {a : SheetAt} {numbers codes : List ℕ} {ks vs : Words} {after : List ℕ} → Drafted s es cs a numbers codes ks vs
     → fineSheet (sheetAt s es cs a) ≡ true → after ≡ tableOf (draft s es cs a numbers codes ks vs) → Means after (sheetAt s es cs a)
 written-means d f e = rw (e, ← draft-means d f) (table-means (draft-sized d f) (draft-ok d f))
-
--- a sheet that can be read is no longer than a text
-pub short-text : (s : List ℕ) (sheet : Sheet) → readSheet s ≡ Got sheet → length s ≤ textLimit
-unfolding readSheet text
-short-text s sheet e =
-    let t = got-from (text s) (λ _. eachLine sheetLine none (split LF s) >>= given 2) sheet e in
-    leb-true (length s) textLimit (must-got 7 (leb (length s) textLimit) (λ _. must 1 (utf8 s)) (t .0) (t .1) .0)
 
 -- what was read, by the case that it is
 pub told : {s es cs : List ℕ} {r q : SheetRead} → SheetAs s es cs r → r ≡ q → SheetAs s es cs q

@@ -1,9 +1,10 @@
 -- What each step of compiling asks follows from the steps before it. Assumes nothing.
-use Prim.Native.Nat.{ℕ, suc, _*_, _≤_}
+use Prim.Native.Nat.{ℕ, suc, _*_, _<_, _≤_}
 use native.Mathlib.Omega.{arith}
 use mathlib.Core.List.{List}
 use mathlib.Core.Path.{_≡_, refl, sym, _∙_}
 use lib.ListN.{length, replicate, length-replicate}
+use Rattle.utf8.specs.Alone.{textLimit}
 use Rattle.sheet.specs.Sheet.{eventLimit, clauseLimit}
 use Rattle.sheet.specs.Places.{clauseNumbers, eventNumbers, sheetAt, SheetAs}
 use Rattle.sheet.specs.declared.SheetAt.{SheetAt}
@@ -18,7 +19,7 @@ use Rattle.codes.proofs.Sheet.{sheet-rows}
 use Rattle.writer.specs.Fits.{TableFits}
 use Rattle.writer.proofs.Asked.{table-fits}
 use Rattle.compile.specs.Steps.{SheetDone, KeysDone}
-use Rattle.compile.proofs.Compiled.{written-means, short-text}
+use Rattle.compile.proofs.Compiled.{written-means}
 
 -- a sheet was read
 pub sheet-done : {s es cs : List ℕ} {a : SheetAt} → SheetAs s es cs (Is a) → length es ≡ eventNumbers * eventLimit → length cs ≡ clauseNumbers * clauseLimit
@@ -27,7 +28,6 @@ sheet-done {s} {es} {cs} {a} r e c =
     record {
       ok = r .ok;
       fine = sheet-fine s (sheetAt s es cs a) (sym (r .is));
-      short = short-text s (sheetAt s es cs a) (sym (r .is));
       events-room = e;
       clauses-room = c;
     }
@@ -36,13 +36,14 @@ pub sheet-clauses : {s es cs : List ℕ} {a : SheetAt} → SheetDone s es cs a �
 sheet-clauses d = sheet-rows (d .ok) (d .fine) (omega (arith, d .clauses-room, d .ok .short))
 
 -- fresh buffers for at most n words
-pub fresh-room : (b n bytes m : ℕ) → bytes ≤ b → m ≤ n → Room (replicate b 0) (replicate (suc n) 0) (replicate n 0) (replicate n 0) (replicate n 0) bytes m
-fresh-room b n bytes m h k =
-    let texts = length-replicate {A = ℕ} b 0 in
+pub fresh-room : (n m : ℕ) → n < 65536 → m ≤ n → Room (replicate textLimit 0) (replicate (suc n) 0) (replicate n 0) (replicate n 0) (replicate n 0) m
+fresh-room n m h k =
+    let texts = length-replicate {A = ℕ} textLimit 0 in
     let words = length-replicate {A = ℕ} n 0 in
     let starts = length-replicate {A = ℕ} (suc n) 0 in
     record {
       first = refl;
+      few = omega arith;
       texts-room = omega (arith, texts);
       starts-room = omega (arith, starts);
       orders-room = omega (arith, words);

@@ -1,10 +1,9 @@
 -- What is known between the steps of compiling: a sheet was read; its keys are noted. Assumes nothing.
-use Prim.Native.Nat.{ℕ, _*_, _≤_}
+use Prim.Native.Nat.{ℕ, _*_}
 use mathlib.Core.Path.{_≡_}
 use mathlib.Core.Bool.{true}
 use mathlib.Core.List.{List, []}
 use lib.ListN.{length, take}
-use Rattle.utf8.specs.Alone.{textLimit}
 use Rattle.sheet.specs.Sheet.{eventLimit, clauseLimit}
 use Rattle.sheet.specs.Places.{clauseNumbers, eventNumbers, clausesAt, sheetAt, SheetOk}
 use Rattle.sheet.specs.declared.SheetAt.{SheetAt}
@@ -16,7 +15,6 @@ use Rattle.draft.specs.Draft.{Words, BookOf, wordsOf}
 pub record SheetDone (s es cs : List ℕ) (a : SheetAt) : Type 0 where
   pub ok : SheetOk s es cs a
   pub fine : fineSheet (sheetAt s es cs a) ≡ true
-  pub short : length s ≤ textLimit
   pub events-room : length es ≡ eventNumbers * eventLimit
   pub clauses-room : length cs ≡ clauseNumbers * clauseLimit
 

@@ -4,7 +4,7 @@ use codes::note_keys;
 use codes::note_values;
 use sheet::SheetAt;
 use sheet::SheetRead;
-use sheet::read_sheet;
+use sheet_read::read_sheet;
 use table::TABLE_LENGTH;
 use writer::put_table;
 ghost use mathlib.Core.Path.{_≡_};
@@ -51,14 +51,14 @@ impl Outcome {
 fn write_values(
     table: &mut [u8],
     s: &[u8],
-    es: &[usize],
-    cs: &[usize],
+    es: &[u16],
+    cs: &[u16],
     a: SheetAt,
-    numbers: &[usize],
+    numbers: &[u16],
     ktexts: &[u8],
-    kstarts: &[usize],
-    korders: &[usize],
-    kranks: &[usize],
+    kstarts: &[u16],
+    korders: &[u16],
+    kranks: &[u16],
     k: usize,
 )
     requires { ⌜ length (now table) ≡ tableLength ⌝ }
@@ -66,10 +66,10 @@ fn write_values(
     ensures { λ _. ⌜ Means (now (table .exit)) (sheetAt (now (s .entry)) (now (es .entry)) (now (cs .entry)) a) ⌝ }
 {
     let mut texts = [0u8; 16384];
-    let mut starts = [0usize; 769];
-    let mut orders = [0usize; 768];
-    let mut ranks = [0usize; 768];
-    let mut codes = [0usize; 768];
+    let mut starts = [0u16; 769];
+    let mut orders = [0u16; 768];
+    let mut ranks = [0u16; 768];
+    let mut codes = [0u16; 768];
     let v = note_values(
         s,
         cs,
@@ -102,16 +102,16 @@ fn write_values(
 }
 
 // Writes the table of a sheet that was read.
-fn write(table: &mut [u8], s: &[u8], es: &[usize], cs: &[usize], a: SheetAt)
+fn write(table: &mut [u8], s: &[u8], es: &[u16], cs: &[u16], a: SheetAt)
     requires { ⌜ length (now table) ≡ tableLength ⌝ }
     requires { ⌜ SheetDone (now s) (now es) (now cs) a ⌝ }
     ensures { λ _. ⌜ Means (now (table .exit)) (sheetAt (now (s .entry)) (now (es .entry)) (now (cs .entry)) a) ⌝ }
 {
-    let mut texts = [0u8; 32768];
-    let mut starts = [0usize; 257];
-    let mut orders = [0usize; 256];
-    let mut ranks = [0usize; 256];
-    let mut numbers = [0usize; 256];
+    let mut texts = [0u8; 16384];
+    let mut starts = [0u16; 257];
+    let mut orders = [0u16; 256];
+    let mut ranks = [0u16; 256];
+    let mut numbers = [0u16; 256];
     let k = note_keys(
         s,
         cs,
@@ -144,8 +144,8 @@ pub fn compile(s: &[u8], table: &mut [u8]) -> Outcome
     if table.len() != TABLE_LENGTH {
         return Outcome::WrongLength;
     }
-    let mut es = [0usize; 192];
-    let mut cs = [0usize; 2304];
+    let mut es = [0u16; 192];
+    let mut cs = [0u16; 2304];
     match read_sheet(s, &mut es, &mut cs) {
         SheetRead::Is(a) => {
             write(table, s, &es, &cs, a);

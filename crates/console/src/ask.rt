@@ -2,10 +2,10 @@
 use bar::Instant;
 use double::Side;
 use le::Real;
-use text::Int;
-use text::Number;
 use text::PIPE;
 use text::find;
+use text_number::Int;
+use text_number::Number;
 ghost use Prim.Native.Nat.{_<_, _≤_, _^_};
 ghost use lib.ListN.{length};
 ghost use lib.Signed.{mag};
@@ -38,7 +38,7 @@ fn or_zero(n: Number) -> u64 {
 
 // Up to 18 digits.
 pub fn number(s: &[u8]) -> u64 {
-    or_zero(text::decimal(s, 0, s.len(), 18))
+    or_zero(text_number::decimal(s, 0, s.len(), 18))
 }
 
 // A place in bytes, in digits.
@@ -48,7 +48,7 @@ pub fn place(s: &[u8]) -> usize {
 
 // 16 hexadecimal digits.
 pub fn bits(s: &[u8]) -> u64 {
-    or_zero(text::read_hex(s, 0, s.len()))
+    or_zero(text_number::read_hex(s, 0, s.len()))
 }
 
 // An i64: up to 18 digits, perhaps behind `-`, or `x` and the 16 hexadecimal digits of its bits.
@@ -90,7 +90,7 @@ pub fn instant(s: &[u8]) -> Instant
 
 // An offset, as an i32 is read.
 pub fn offset(s: &[u8]) -> i32 {
-    match text::read_i32(s, 0, s.len()) {
+    match text_number::read_i32(s, 0, s.len()) {
         Int::Plus(m) => le::to_i32((m % 4294967296) as u32),
         Int::Minus(m) => {
             let low = m % 4294967296;

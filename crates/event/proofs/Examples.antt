@@ -42,11 +42,20 @@ clause = record { key = bytes "k"; v1 = bytes "a"; v2 = bytes "任意"; v3 = [];
 abbrev line : List ℕ → List Line
 line value = record { key = bytes "k"; value = value } ∷ []
 
--- the score equal, below, and -1; a wild value; an empty one; another; no value of the bar is wild
-clause-holds : (holds (line (bytes "a_x__5")) clause ≡ true) × (holds (line (bytes "a_x__4")) clause ≡ false) × (holds (line (bytes "a_x__-1")) clause ≡ false)
-    × (holds (line (bytes "a___+5")) clause ≡ true) × (holds (line (bytes "a_x_y_5")) clause ≡ false) × (holds (line (bytes "任意_x__5")) clause ≡ false)
+-- a clause with no wild value: the score equal, with a sign, below, and -1
+abbrev strict : Signal
+strict = record { key = bytes "k"; v1 = bytes "a"; v2 = bytes "x"; v3 = []; score = 5 }
+
+scores : (holds (line (bytes "a_x__5")) strict ≡ true) × (holds (line (bytes "a_x__+5")) strict ≡ true) × (holds (line (bytes "a_x__4")) strict ≡ false)
+    × (holds (line (bytes "a_x__-1")) strict ≡ false)
 unfolding opened
-clause-holds = (refl, refl, refl, refl, refl, refl)
+scores = (refl, refl, refl, refl)
+
+-- a wild value against another and against an empty one; a value that differs; no value of the bar is wild
+values : (holds (line (bytes "a_x__6")) clause ≡ true) × (holds (line (bytes "a___6")) clause ≡ true) × (holds (line (bytes "a_x_y_6")) clause ≡ false)
+    × (holds (line (bytes "任意_x__6")) clause ≡ false)
+unfolding opened
+values = (refl, refl, refl, refl)
 
 -- absent: no line, another key, three parts, five parts, no number
 absent : (holds [] clause ≡ false) × (holds (record { key = bytes "K"; value = bytes "a_x__5" } ∷ []) clause ≡ false)

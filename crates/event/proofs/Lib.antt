@@ -1,9 +1,4 @@
--- The laws of a bar's signals and of matching.
-pub mod Prints
-pub mod Blocks
-pub mod Seek
-pub mod Firsts
-pub mod Fields
-pub mod Adding
-pub mod Opened
+-- Worked examples, and the laws of the first match.
 mod Examples
+pub mod First
+pub mod Opened

@@ -1,6 +1,3 @@
 -- The definitions of a bar's signals and of matching.
 pub mod Signals
 pub mod Match
-pub mod Places
-pub mod Blocks
-pub mod Steps

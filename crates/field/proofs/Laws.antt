@@ -1,7 +1,7 @@
 -- Fields written one behind another, and what the code of a field gives. Assumes nothing.
 use Prim.Native.Nat.{ℕ, zero, suc, _+_, _≤_}
 use native.Mathlib.Omega.{arith}
-use mathlib.Core.Path.{_≡_, refl, ap, subst}
+use mathlib.Core.Path.{_≡_, _∙_, refl, ap, subst}
 use mathlib.Core.Bool.{true, false, not, false≢true}
 use mathlib.Core.Logic.{_≢_}
 use mathlib.Core.List.{List, _++_}
@@ -21,6 +21,7 @@ use Rattle.bar.specs.Time.{localTime}
 use Rattle.bar.specs.Bar.{between, timeOk, localOf}
 use Rattle.position.specs.declared.Pos.the-variants.{Long}
 use Rattle.bar.specs.declared.Time.{Time}
+use Rattle.bar.specs.declared.LocalTime.{LocalTime}
 use Rattle.book.specs.Layout.{timeBytes, posAt}
 use Rattle.book.proofs.Ranges.{time-in}
 
@@ -64,5 +65,6 @@ below lo hi e h = subst (λ (x : ℤ). false ≡ between lo hi x) e (rw h)
 -- ---- times
 
 -- an offset in range is read back as it was
-pub local-back : (t : Time) → timeOk t ≡ true → localTime (t .instant .0) (back w32 (t .offset)) ≡ localOf t
-local-back t h = ap (localTime (t .instant .0)) (toZ-ofZ {w = w32} (record { sfits = time-in t h .offset }))
+pub local-back : (t : Time) {l : LocalTime} → timeOk t ≡ true → l .0 ≡ localTime (t .instant .0) (back w32 (t .offset)) → l ≡ localOf t
+local-back t h e =
+    ap (λ (z : ℤ). record { 0 = z }) (e ∙ ap (localTime (t .instant .0)) (toZ-ofZ {w = w32} (record { sfits = time-in t h .offset })))

@@ -130,7 +130,7 @@ pub fn time_ok(t: Time) -> bool
 // The local time of a time in range.
 pub fn local_of(t: Time) -> LocalTime
     requires { ⌜ timeOk t ≡ true ⌝ }
-    ensures { λ r. ⌜ r .0 ≡ localOf t ⌝ }
+    ensures { λ r. ⌜ r ≡ localOf t ⌝ }
 {
     let instant = t.instant;
     let offset = t.offset;

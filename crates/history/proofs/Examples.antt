@@ -1,25 +1,28 @@
--- One list of calls, computed: what each answers, which bars survive, and that the book at the end is that of the plain machine after them.
+-- Lists of calls, computed: what each call answers, which bars survive, and that the book at the end is that of the plain machine after them.
 -- Assumes nothing.
 use Prim.Native.Nat.{ℕ}
 use mathlib.Core.Bool.{true}
-use mathlib.Core.List.{List, [], _∷_, _++_}
+use mathlib.Core.List.{List, [], _∷_, _++_, map}
 use mathlib.Core.Path.{_≡_, refl}
 use lib.IntN.{pos, negsuc}
 use lib.Ieee.{binary64, ofBits}
 use lib.ListN.{replicate}
 use Rattle.le.specs.Le.{patch}
-use Rattle.text.specs.Answer.{Refused, Got}
+use Rattle.text.specs.Answer.{Refused, Got, gotOr}
 use Rattle.text.specs.Literal.{bytes}
 use Rattle.text.specs.Text.{same}
 use Rattle.double.specs.declared.Yield.the-variants.{Absent}
 use Rattle.position.specs.Step.{plain}
 use Rattle.table.proofs.Examples.{soy, meant}
 use Rattle.book.specs.Layout.{encode}
+use Rattle.book.specs.Calls.{freshDo}
 use Rattle.rows.specs.Calls.{pairDo, pairBytes, holdDo}
-use Rattle.history.specs.Calls.{Call, Fresh, Feed, Save, Restore, PairRow, HoldRow, answered, after, Past, Unknown, Known, bookAfter, survivors}
+use Rattle.blocks.specs.Blocks.{countsDo}
+use Rattle.history.specs.Calls.{Call, Fresh, Feed, Save, Restore, Ask, PairRow, HoldRow, PairRows, HoldRows, Counts, EventName, bookAfter, doneFrom}
+use Rattle.history.specs.Survivors.{Past, Unknown, Known, survivors, AllOurs}
 use Rattle.history.proofs.Opened.{opened}
 
--- ---- the calls, on a book of 3 bars whose bytes at first are no book
+-- ---- the calls, on a book of 3 bars
 
 abbrev feed : List ℕ → ℕ → ℕ → List ℕ → Call
 feed table id instant signals =
@@ -31,48 +34,49 @@ up = bytes "d1_u_w|up_a_b_10\n"
 abbrev down : List ℕ
 down = bytes "d1_u_w|down_a_b_5\n"
 
+-- made fresh of bytes that are no book
 unfoldable start : List ℕ
-start = replicate 288 255
+start = gotOr [] (freshDo (replicate 288 255))
 
 unfoldable buffer : List ℕ
 buffer = replicate 288 3
 
--- two refusals (no book yet, a table that is none), a fresh, a bar, and a save: its image
+-- a table that is none, a bar, and a save: its image
 unfoldable beginning : List Call
-beginning = feed soy 1 1 up ∷ feed (replicate 32768 0) 1 1 up ∷ Fresh ∷ feed soy 1 1 up ∷ Save soy buffer ∷ []
+beginning = feed (replicate 32768 0) 1 1 up ∷ feed soy 1 1 up ∷ Save soy buffer ∷ []
 
 unfoldable image : List ℕ
 image = bookAfter start beginning
 
 -- a bar that a restore takes back, refusals of each kind between them (a late bar, a malformed signal, a damaged image, a short one, rows past
--- the last and before the first), two bars more, a full book, a save and rows
+-- the last and before the first), two bars more, a full book, a save, rows, counts, blocks and a name
 unfoldable calls : List Call
 calls =
     beginning
     ++ feed soy 2 86400000001 down
     ∷ feed soy 3 5 up
-    ∷ Restore soy image
+    ∷ Restore soy image 0
     ∷ feed soy 4 7 down
     ∷ feed soy 5 9 (bytes "x")
-    ∷ Restore soy (patch image 0 (9 ∷ []))
-    ∷ Restore soy (7 ∷ [])
-    ∷ PairRow soy (pos 0) (replicate 2048 0)
+    ∷ Restore soy (patch image 0 (9 ∷ [])) 0
+    ∷ Restore soy (7 ∷ []) 0
+    ∷ Ask (PairRow soy (pos 0) (replicate 2048 0))
     ∷ feed soy 6 172800000000 down
     ∷ feed soy 7 172800000001 up
     ∷ Save soy buffer
-    ∷ PairRow soy (pos 0) (replicate 2048 0)
-    ∷ HoldRow soy (pos 2)
-    ∷ HoldRow soy (negsuc 0)
+    ∷ Ask (PairRow soy (pos 0) (replicate 2048 0))
+    ∷ Ask (HoldRow soy (pos 2))
+    ∷ Ask (HoldRow soy (negsuc 0))
+    ∷ Ask (Counts soy)
+    ∷ Ask (HoldRows soy (pos 1) (replicate 64 0))
+    ∷ Ask (PairRows soy (pos 1) (replicate 2136 0))
+    ∷ Ask (EventName soy (pos 0) (replicate 256 0))
     ∷ []
 
 -- ---- what they answer
 
-unfoldable numbers : List ℕ → List Call → List ℕ
-numbers b [] = []
-numbers b (c ∷ cs) = answered b c .number ∷ numbers (after b c) cs
-
-said : numbers start calls ≡ 10 ∷ 9 ∷ 0 ∷ 0 ∷ 0 ∷ 0 ∷ 13 ∷ 0 ∷ 0 ∷ 2 ∷ 10 ∷ 8 ∷ 15 ∷ 0 ∷ 14 ∷ 0 ∷ 0 ∷ 0 ∷ 15 ∷ []
-unfolding opened soy start buffer beginning image calls numbers
+said : map (λ d. d .answer .number) (doneFrom start calls) ≡ 9 ∷ 0 ∷ 0 ∷ 0 ∷ 13 ∷ 0 ∷ 0 ∷ 2 ∷ 10 ∷ 8 ∷ 15 ∷ 0 ∷ 14 ∷ 0 ∷ 0 ∷ 0 ∷ 15 ∷ 0 ∷ 0 ∷ 15 ∷ 0 ∷ []
+unfolding opened soy start buffer beginning image calls
 said = refl
 
 -- ---- which bars survive: numbers 1, 4 and 6
@@ -82,7 +86,11 @@ ids Unknown = []
 ids (Known []) = []
 ids (Known (f ∷ fs)) = f .bar .id ∷ ids (Known fs)
 
-survived : ids (survivors soy start calls) ≡ 1 ∷ 4 ∷ 6 ∷ []
+-- the ids of those that survive the calls
+abbrev left : List Call → List ℕ
+left cs = ids (survivors soy (doneFrom start cs))
+
+survived : left calls ≡ 1 ∷ 4 ∷ 6 ∷ []
 unfolding opened soy start buffer beginning image calls
 survived = refl
 
@@ -92,7 +100,7 @@ abbrev bookOf : Past → List ℕ
 bookOf Unknown = []
 bookOf (Known fs) = encode 3 (plain meant fs)
 
-kept : same (bookAfter start calls) (bookOf (survivors soy start calls)) ≡ true
+kept : same (bookAfter start calls) (bookOf (survivors soy (doneFrom start calls))) ≡ true
 unfolding opened soy meant start buffer beginning image calls
 kept = refl
 
@@ -109,8 +117,34 @@ hold-row : (holdDo soy (bookAfter start calls) (pos 2)
 unfolding opened soy start buffer beginning image calls
 hold-row = (refl, refl)
 
--- ---- an image that no save wrote leaves nothing claimed, until a fresh
+counted : countsDo soy (bookAfter start calls) ≡ Got (record { holds = 3; pairs = 1 })
+unfolding opened soy start buffer beginning image calls
+counted = refl
 
-unclaimed : (ids (survivors soy start (Fresh ∷ Restore soy image ∷ [])) ≡ []) × (survivors soy start (Fresh ∷ Restore soy image ∷ Fresh ∷ []) ≡ Known [])
+-- ---- what is asked of the host can be had: a bar, its save, a bar, and the restore of that save
+
+ours : AllOurs soy [] (doneFrom start (feed soy 1 1 up ∷ Save soy buffer ∷ feed soy 2 86400000001 down ∷ Restore soy image 0 ∷ []))
 unfolding opened soy start buffer beginning image
-unclaimed = (refl, refl)
+ours = (λ e. refl, (tt, (λ e. refl, (λ e. refl, tt))))
+
+-- ---- two saves that left the same bytes after different bars (a bar that no event matches leaves no id): the save that a restore names counts
+
+unfoldable twice : List Call
+twice = feed soy 1 5 [] ∷ Save soy buffer ∷ Fresh ∷ feed soy 2 5 [] ∷ Save soy buffer ∷ []
+
+unfoldable equal : List ℕ
+equal = bookAfter start twice
+
+named : (left (twice ++ Restore soy equal 0 ∷ []) ≡ 2 ∷ []) × (left (twice ++ Restore soy equal 1 ∷ []) ≡ 1 ∷ [])
+unfolding opened soy start buffer twice equal
+named = (refl, refl)
+
+-- ---- an image that no save of the list left: nothing is claimed, until a fresh or a restore of one that a save left
+
+lost : (survivors soy (doneFrom start (Restore soy image 0 ∷ [])) ≡ Unknown) × (survivors soy (doneFrom start (Restore soy image 0 ∷ Fresh ∷ [])) ≡ Known [])
+unfolding opened soy start buffer beginning image
+lost = (refl, refl)
+
+found : left (beginning ++ Restore soy start 0 ∷ Restore soy image 0 ∷ []) ≡ 1 ∷ []
+unfolding opened soy start buffer beginning image
+found = refl

@@ -2,8 +2,9 @@
 use Prim.Native.Nat.{ℕ}
 use native.Mathlib.Omega.{arith}
 use mathlib.Core.Bool.{Bool, true, false, cond}
-use mathlib.Core.List.{List, []}
+use mathlib.Core.List.{List, [], _∷_}
 use mathlib.Core.Path.{_≡_, refl, sym, ap, _∙_}
+use mathlib.Mathlib.Data.List.Basic.{forall-cons}
 use lib.Dec.{T}
 use lib.Ieee.{binary64, fits}
 use lib.ListN.{length}
@@ -23,8 +24,9 @@ use Rattle.book.specs.Layout.{encode}
 use Rattle.book.specs.Calls.{feedDo, feedBytes}
 use Rattle.book.proofs.Feeds.{Ready, feed-is}
 use Rattle.book.proofs.Ready.{ready}
-use Rattle.history.specs.Calls.{Fresh, Feed, Save, Restore, answered, after, Past, Unknown, Known, Ledger, add, note, savedAs, ifDone, survive}
-use Rattle.history.proofs.Invariant.{BookOf, Follows, Good, note-right, saved-follows}
+use Rattle.history.specs.Calls.{Fresh, Feed, Save, Restore, answered, after}
+use Rattle.history.specs.Survivors.{Past, Unknown, Known, Saved, Ledger, add, savedAs, ifDone, survive}
+use Rattle.history.proofs.Invariant.{BookOf, Follows, SavedRight, Good, saved-follows}
 use Rattle.history.proofs.Booked.{cleared, stepped}
 use Rattle.history.proofs.Answered.{Cleared, fresh-gives, feed-gives, save-gives, restore-gives}
 
@@ -35,23 +37,24 @@ module _ (table : List ℕ) (s : Sheet) (l : Ledger) (b : List ℕ) (good : Good
   save-keeps = go (save-gives t b image)
     where
       go : {a : Answer (List ℕ)} → Gives (λ x. x ≡ b) a
-          → Good s (ifDone (number a) (record { past = l .past; saves = note (gotOr image a) (l .past) (l .saves) }) l) b
+          → Good s (ifDone (number a) (record { past = l .past; saves = record { image = gotOr image a; past = l .past } ∷ l .saves }) l) b
       go refuses = good
       go (gives {x} e) =
-          record { book = good .book; saves = note-right s x (l .past) (l .saves) (rw e (good .book)) (good .saves) }
+          let noted : Saved = record { image = x; past = l .past } in
+          record { book = good .book; saves = forall-cons (SavedRight s) noted (l .saves) .1 (rw e (good .book), good .saves) }
 
-  pub restore-keeps : Good s (survive table l (Restore t image) (answered b (Restore t image))) (after b (Restore t image))
-  restore-keeps = go (restore-gives t b image)
+  pub restore-keeps : (k : ℕ) → Good s (survive table l (Restore t image k) (answered b (Restore t image k))) (after b (Restore t image k))
+  restore-keeps k = go (restore-gives t b image)
     where
       go : {a : Answer (List ℕ)} → Gives (λ x. x ≡ image) a
-          → Good s (ifDone (number a) (record { past = savedAs image (l .saves); saves = l .saves }) l) (gotOr b a)
+          → Good s (ifDone (number a) (record { past = savedAs k image (l .saves); saves = l .saves }) l) (gotOr b a)
       go refuses = good
-      go (gives e) = record { book = rw e (saved-follows s image (l .saves) (good .saves)); saves = good .saves }
+      go (gives e) = record { book = rw e (saved-follows s k image (l .saves) (good .saves)); saves = good .saves }
 
 -- ---- fresh and feed
 
 module _ (table : List ℕ) (s : Sheet) (meant : readTable table ≡ Got s) where
-  fresh-book : (b x : List ℕ) → Cleared b x → BookOf s (plain s []) x
+  pub fresh-book : (b x : List ℕ) → Cleared b x → BookOf s (plain s []) x
   unfolding plain plainFrom
   fresh-book b x e = cleared table s meant b x e
 

@@ -3,8 +3,10 @@ pub mod Answered
 pub mod Invariant
 pub mod Booked
 pub mod Keeps
+pub mod Sizes
+pub mod Numbers
 pub mod Kept
-pub mod Theorem
 pub mod Known
+pub mod Theorem
 pub mod Opened
 mod Examples

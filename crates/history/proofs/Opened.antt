@@ -1,8 +1,10 @@
 -- Opens every definition of `history` and of what it leans on, for examples that compute. Assumes nothing.
 use Rattle.rows.proofs.Opened.{opened as opened-rows}
-use Rattle.history.specs.Calls.{savedAs, bookAfter, ledgerFrom, survivors}
-use Rattle.history.specs.Claim.{doubles, Claim, TableClaim, StaysKnown}
+use Rattle.blocks.specs.Blocks.{holdRowBytes, pairRowBytes, fitting, blockDo, countsDo}
+use Rattle.history.specs.Calls.{bookAfter, doneFrom}
+use Rattle.history.specs.Survivors.{savedAs, ledgerFrom, survivors}
+use Rattle.history.specs.Demand3.{doubles, Demand3}
 
 unfoldable pub opened : Unit {0}
-unfolding opened-rows savedAs bookAfter ledgerFrom survivors doubles Claim TableClaim StaysKnown
+unfolding opened-rows holdRowBytes pairRowBytes fitting blockDo countsDo bookAfter doneFrom savedAs ledgerFrom survivors doubles Demand3
 opened = tt

@@ -17,7 +17,7 @@ sign-back Short = refl
 sign-back Flat = refl
 sign-back Long = refl
 
-pub row-is : (o : Hold) (l : LocalTime) (z : ℤ) → l .0 ≡ localOf (o .time) → z ≡ posSign (o .pos)
+pub row-is : (o : Hold) (l : LocalTime) (z : ℤ) → l ≡ localOf (o .time) → z ≡ posSign (o .pos)
     → record { local = l; pos = back w32 z; price = o .price; n1b = o .n1b } ≡ holdRow o
 unfolding holdRow
-row-is o l z e f = ap₂ (λ (t s : ℤ). record { local = record { 0 = t }; pos = s; price = o .price; n1b = o .n1b }) e (ap (back w32) f ∙ sign-back (o .pos))
+row-is o l z e f = ap₂ (λ (t : LocalTime) (s : ℤ). record { local = t; pos = s; price = o .price; n1b = o .n1b }) e (ap (back w32) f ∙ sign-back (o .pos))

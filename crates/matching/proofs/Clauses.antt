@@ -13,9 +13,9 @@ use lib.Signed.{leZ}
 use lib.ListN.{length, getD, take, drop}
 use lib.Seq.{slice}
 use Rattle.text.specs.Text.{same}
-use Rattle.text.specs.Read.{intOf}
-use Rattle.text.specs.declared.Int.{Int}
-use Rattle.text.specs.declared.Int.the-variants.{Plus, Minus}
+use Rattle.text_number.specs.Read.{intOf}
+use Rattle.text_number.specs.declared.Int.{Int}
+use Rattle.text_number.specs.declared.Int.the-variants.{Plus, Minus}
 use Rattle.text.proofs.Conditions.{fact}
 use Rattle.text.proofs.Laws.{part-end, part-size}
 use Rattle.text.proofs.Same.{same-refl}
@@ -25,8 +25,8 @@ use Rattle.signal.specs.Read.{valueIn}
 use Rattle.signal.specs.declared.ValueAt.{ValueAt}
 use Rattle.signal.specs.declared.ValueRead.the-variants.{Counts, Absent}
 use Rattle.event.specs.Match.{valueAt, agrees, meets, metBy, holds}
-use Rattle.event.specs.Places.{print, linesAt, LinesOk}
-use Rattle.event.specs.Steps.{FoundAt, Missing}
+use Rattle.event_find.specs.Places.{print, linesAt, LinesOk}
+use Rattle.event_find.specs.Steps.{FoundAt, Missing}
 use Rattle.table.specs.Layout.{countsIn}
 use Rattle.table.specs.Table.{wildCode, clauseOk, textAt, clauseOf, isTable}
 use Rattle.table.specs.declared.ClauseRow.{ClauseRow}

@@ -12,7 +12,7 @@ use lib.ListN.{drop, drop-of-length-le}
 use Rattle.sheet.specs.Sheet.{Event}
 use Rattle.event.specs.Signals.{Line}
 use Rattle.event.specs.Match.{matches, firstOf, firstMatch, preferred}
-use Rattle.event.specs.Places.{linesAt}
+use Rattle.event_find.specs.Places.{linesAt}
 use Rattle.table.specs.Layout.{countsIn, partsIn}
 use Rattle.table.specs.Table.{eventOf, sheetOf}
 use Rattle.table.specs.declared.EventRow.{EventRow}

@@ -9,7 +9,7 @@ use lib.IntN.{ℤ, pos}
 use lib.Signed.{leZ}
 use Rattle.sheet.specs.Sheet.{Kind, All, Any, Not, Event as SheetEvent}
 use Rattle.event.specs.Match.{isOpening, isExit, firstOf, firstMatch}
-use Rattle.event.specs.Places.{linesAt}
+use Rattle.event_find.specs.Places.{linesAt}
 use Rattle.table.specs.Layout.{countsIn, partsIn}
 use Rattle.table.specs.Table.{sheetOf}
 use Rattle.matching.specs.declared.Match.{Match}

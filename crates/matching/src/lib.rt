@@ -1,10 +1,10 @@
 // The first match: which event of a compiled table a bar's signals choose.
 //
 // A function that asks for a table `t` asks for one that was accepted. The bar's signals are the text `s` with the places and
-// fingerprints of its n lines, as `event::read_signals` leaves them.
-use event::Found;
-use event::find_line;
-use event::fingerprint;
+// fingerprints of its n lines, as `event_signals::read_signals` leaves them.
+use event_find::Found;
+use event_find::find_line;
+use event_find::fingerprint;
 use signal::ValueRead;
 use signal::read_value;
 use table::ClauseRow;
@@ -15,19 +15,20 @@ use table::event_at;
 use table::read_counts;
 use table::read_places;
 use table::word_at;
-use text::Int;
 use text::part_eq;
+use text_number::Int;
 ghost use mathlib.Core.Path.{_≡_};
 ghost use mathlib.Core.Bool.{true, _&&_};
 ghost use mathlib.Core.List.{[]};
 ghost use Prim.Native.Nat.{_<_, _≤_};
 ghost use lib.ListN.{length, getD};
 ghost use lib.Seq.{slice};
-ghost use Rattle.text.specs.Read.{Part, intOf};
+ghost use Rattle.text.specs.Read.{Part};
+ghost use Rattle.text_number.specs.Read.{intOf};
 ghost use Rattle.signal.specs.Value.{valueOf};
 ghost use Rattle.sheet.specs.Sheet.{kindOf};
 ghost use Rattle.event.specs.Match.{agrees as Match·agrees, metBy, holds, matches};
-ghost use Rattle.event.specs.Places.{linesAt, LinesOk};
+ghost use Rattle.event_find.specs.Places.{linesAt, LinesOk};
 ghost use Rattle.table.specs.Layout.{countsIn, between};
 ghost use Rattle.table.specs.Table.{isTable, textAt};
 ghost use Rattle.matching.specs.Rows.{textOf, WordAmong, keysOf, valuesOf, clauseFrom, eventFrom, CodeIn, ClauseIn, EventIn};

@@ -1,6 +1,6 @@
 // Operates: the codes 0 to 6, their two spellings, and an operate that stands alone.
 use text::part_eq;
-use utf8::Alone;
+use utf8_text::Alone;
 ghost use mathlib.Core.Path.{_≡_};
 ghost use mathlib.Core.Bool.{_||_};
 ghost use mathlib.Core.List.{[]};
@@ -155,7 +155,7 @@ pub fn parse_operate(s: &[u8]) -> OperateRead
 pub fn operate_alone(s: &[u8]) -> OperateAlone
     ensures { λ r. ⌜ aloneOf r ≡ operateAlone (now (s .entry)) ⌝ }
 {
-    match utf8::check_alone(s) {
+    match utf8_text::check_alone(s) {
         Alone::TooLong => OperateAlone::TooLong,
         Alone::NotUtf8 => OperateAlone::NotUtf8,
         Alone::Marked => OperateAlone::Marked,

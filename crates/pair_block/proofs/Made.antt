@@ -11,10 +11,9 @@ use Rattle.le.proofs.Laws.{part-same}
 use Rattle.text.specs.Read.{Put}
 use Rattle.double.specs.Double.{yieldOk}
 use Rattle.position.specs.Rows.{Pair}
-use Rattle.rows.specs.Calls.{rowBuffer, pairText}
-use Rattle.pairs.specs.Read.{pairRow}
+use Rattle.position.specs.declared.PairRow.{PairRow}
+use Rattle.rows.specs.Calls.{rowBuffer, pairText, pairRow}
 use Rattle.pairs.specs.Row.{PairPut}
-use Rattle.pairs.specs.declared.PairRow.{PairRow}
 use Rattle.pairs.proofs.Texts.{pair-room}
 use Rattle.pairs.proofs.Numbers.{PairNumbers}
 use Rattle.blocks.specs.Blocks.{pairRowBytes}

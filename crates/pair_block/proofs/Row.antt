@@ -10,10 +10,10 @@ use Rattle.le.specs.Field.{put32, putI32, putI64, putF64}
 use Rattle.le.proofs.Laws.{length-leBytes}
 use Rattle.text.specs.Read.{Put}
 use Rattle.text.proofs.Put.{put-put}
+use Rattle.position.specs.declared.PairRow.{PairRow}
 use Rattle.book.specs.Layout.{yieldFlag, yieldBytes}
 use Rattle.book.proofs.Lengths.{yield-length}
 use Rattle.field.proofs.Laws.{put-first, put-next}
-use Rattle.pairs.specs.declared.PairRow.{PairRow}
 use Rattle.blocks.specs.Blocks.{sideSign}
 use Rattle.pair_block.specs.Row.{tradeBytes, figureBytes}
 

@@ -11,8 +11,8 @@ use Rattle.le.specs.Field.{put32, putI32, putI64, putF64}
 use Rattle.text.specs.Read.{Put}
 use Rattle.double.specs.Double.{yieldOk}
 use Rattle.position.specs.Rows.{Pair}
+use Rattle.position.specs.declared.PairRow.{PairRow}
 use Rattle.book.specs.Layout.{yieldFlag, yieldBytes}
-use Rattle.pairs.specs.declared.PairRow.{PairRow}
 use Rattle.blocks.specs.Blocks.{sideSign, pairRowBytes}
 use Rattle.pair_block.specs.declared.Added.{Added}
 use Rattle.pair_block.specs.declared.Added.the-variants.{Next, Full}

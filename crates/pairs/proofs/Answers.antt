@@ -11,18 +11,18 @@ use Rattle.text.specs.Answer.{Answer, Refused, Got, _>>=_, must, given}
 use Rattle.text.proofs.Answers.{refused-then, got-then}
 use Rattle.sheet.specs.Sheet.{Sheet}
 use Rattle.position.specs.Rows.{Pair, pairsOf}
+use Rattle.position.specs.declared.PairRow.{PairRow}
 use Rattle.book.specs.Layout.{recordsOf}
 use Rattle.book.specs.Calls.{checked}
 use Rattle.table.specs.Layout.{partsIn}
 use Rattle.table.specs.Table.{sheetOf}
-use Rattle.rows.specs.Calls.{rowBuffer, rowAt, pairDo, pairBytes}
+use Rattle.rows.specs.Calls.{rowBuffer, rowAt, pairDo, pairBytes, pairRow}
 use Rattle.header.specs.Size.{SizedAs}
 use Rattle.header.specs.declared.Sized.the-variants.{Bars, Wrong}
 use Rattle.book_check.specs.Read.{CheckedAs}
 use Rattle.book_check.specs.declared.Checked.the-variants.{Passed, NotTable, NotBook}
-use Rattle.pairs.specs.Read.{pairRow, PairAs}
+use Rattle.pairs.specs.Read.{PairAs}
 use Rattle.pairs.specs.Row.{PairPut, Answered}
-use Rattle.pairs.specs.declared.PairRow.{PairRow}
 use Rattle.pairs.specs.declared.PairRead.{PairRead}
 use Rattle.pairs.specs.declared.PairRead.the-variants.{Row, WrongLength, NotTable as NoTable, NotBook as NoBook, PastLast}
 

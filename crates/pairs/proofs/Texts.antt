@@ -12,10 +12,9 @@ use Rattle.text.proofs.Put.{put-put, put-whole}
 use Rattle.sheet.specs.Sheet.{Sheet, nameLimit}
 use Rattle.position.specs.Rows.{Pair, sequenceOf, pairOf}
 use Rattle.position.specs.declared.Record.{Record}
-use Rattle.rows.specs.Calls.{rowBuffer, pairText}
-use Rattle.pairs.specs.Read.{pairRow}
+use Rattle.position.specs.declared.PairRow.{PairRow}
+use Rattle.rows.specs.Calls.{rowBuffer, pairText, pairRow}
 use Rattle.pairs.specs.Row.{rowOf, PairPut}
-use Rattle.pairs.specs.declared.PairRow.{PairRow}
 
 -- behind one text, and behind two, there is room for the next
 module _ (x y : List ℕ) {before l : List ℕ} {n : ℕ} (hx : length x ≤ nameLimit) (hy : length y ≤ nameLimit) (room : rowBuffer ≤ length before) (p : Put before l 0 (slice 0 (length x) x) n) where

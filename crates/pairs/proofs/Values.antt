@@ -15,6 +15,7 @@ use Rattle.double.specs.declared.Side.{Side}
 use Rattle.double.specs.declared.Yield.{Yield}
 use Rattle.bar.specs.Time.{secondsBetween}
 use Rattle.bar.specs.Bar.{localOf}
+use Rattle.bar.specs.declared.LocalTime.{LocalTime}
 use Rattle.bar.proofs.Diff.{of-pos, sub, same, bound}
 use Rattle.position.specs.Rows.{sideOf}
 use Rattle.position.specs.declared.Record.{Record}
@@ -33,7 +34,7 @@ ids-step z a hz ha = step difference (record { sfits = bound z a 922337203685477
         ∙ sub z 0 a 0
         ∙ same (z + 0) (0 + a) z a (omega arith)
 
-pub row-is : (a z : Record) (symbol mark sequence : ℕ) (side : Side) (opened closed ids : ℤ) (days : Float) (bp : Yield)
+pub row-is : (a z : Record) (symbol mark sequence : ℕ) (side : Side) (opened closed : LocalTime) (ids : ℤ) (days : Float) (bp : Yield)
     → side ≡ sideOf a
     → opened ≡ localOf (a .bar .time)
     → closed ≡ localOf (z .bar .time)
@@ -42,8 +43,8 @@ pub row-is : (a z : Record) (symbol mark sequence : ℕ) (side : Side) (opened c
     → bp ≡ pairYield side (a .bar .price) (z .bar .price)
     → record {
       side = side;
-      opened = record { 0 = opened };
-      closed = record { 0 = closed };
+      opened = opened;
+      closed = closed;
       from = a .bar .price;
       to = z .bar .price;
       ids = ids;

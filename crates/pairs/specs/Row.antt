@@ -10,9 +10,9 @@ use Rattle.bar.specs.Time.{secondsBetween}
 use Rattle.bar.specs.Bar.{localOf}
 use Rattle.position.specs.Rows.{Pair, sideOf}
 use Rattle.position.specs.declared.Record.{Record}
-use Rattle.rows.specs.Calls.{pairText, pairBytes}
-use Rattle.pairs.specs.Read.{pairRow, pairReadOf}
-use Rattle.pairs.specs.declared.PairRow.{PairRow}
+use Rattle.position.specs.declared.PairRow.{PairRow}
+use Rattle.rows.specs.Calls.{pairText, pairBytes, pairRow}
+use Rattle.pairs.specs.Read.{pairReadOf}
 use Rattle.pairs.specs.declared.PairRead.{PairRead}
 
 -- the row of two records, with the lengths of its texts
@@ -20,8 +20,8 @@ unfoldable pub rowOf : Record → Record → ℕ → ℕ → ℕ → PairRow
 rowOf a z symbol mark sequence =
     record {
       side = sideOf a;
-      opened = record { 0 = localOf (a .bar .time) };
-      closed = record { 0 = localOf (z .bar .time) };
+      opened = localOf (a .bar .time);
+      closed = localOf (z .bar .time);
       from = a .bar .price;
       to = z .bar .price;
       ids = subℕ (z .bar .id) (a .bar .id);

@@ -1,12 +1,10 @@
 // Pair rows.
-use bar::LocalTime;
 use bar::Time;
 use book::ENTRY_LENGTH;
 use book::HEAD_LENGTH;
 use book_check::Checked;
 use book_check::check_book;
 use double::Side;
-use double::Yield;
 use double::days;
 use double::pair_yield;
 use entry::record_at;
@@ -16,6 +14,7 @@ use header::size_of;
 use le::get_u32;
 use operate::LO;
 use operate::is_opening;
+use position::PairRow;
 use position::Record;
 use sequence::put_sequence;
 use text::put_part;
@@ -47,22 +46,6 @@ pub const ROW_BUFFER: usize = 2048;
 
 // Where in its slot a record has its operate.
 const OPERATE: usize = 24;
-
-// A pair row: the side, both local times, both prices, the id difference, days, the yield, and the lengths of symbol, mark and sequence
-// in the row buffer.
-pub struct PairRow {
-    pub side: Side,
-    pub opened: LocalTime,
-    pub closed: LocalTime,
-    pub from: f64,
-    pub to: f64,
-    pub ids: i64,
-    pub days: f64,
-    pub bp: Yield,
-    pub symbol: usize,
-    pub mark: usize,
-    pub sequence: usize,
-}
 
 // What a request for a pair row answers: the row, or why it is refused.
 pub enum PairRead {

@@ -17,6 +17,7 @@ use Rattle.double.specs.declared.Yield.{Yield}
 use Rattle.operate.specs.Operate.{LO, LE, SO, SE, latin, chinese}
 use Rattle.bar.specs.Time.{secondsBetween}
 use Rattle.bar.specs.Bar.{localOf}
+use Rattle.bar.specs.declared.LocalTime.{LocalTime}
 use Rattle.sheet.specs.Sheet.{Event, Sheet}
 use Rattle.position.specs.State.{posSign}
 use Rattle.position.specs.declared.Description.{Description}
@@ -71,8 +72,8 @@ pub record Pair : Type 0 where
   pub symbol : List ℕ
   pub mark : List ℕ
   pub side : Side
-  pub openLocal : ℤ
-  pub closeLocal : ℤ
+  pub openLocal : LocalTime
+  pub closeLocal : LocalTime
   pub openPrice : Float
   pub closePrice : Float
   pub ids : ℤ
@@ -115,7 +116,7 @@ pairsOf s (a ∷ b ∷ rs) = let later = pairsOf s (b ∷ rs) in cond (opens a) 
 
 -- "Hold rows (`holds`) give local time, -1, 0 or 1, price, yield."
 unfoldable pub holdRow : Hold → HoldRow
-holdRow o = record { local = record { 0 = localOf (o .time) }; pos = posSign (o .pos); price = o .price; n1b = o .n1b }
+holdRow o = record { local = localOf (o .time); pos = posSign (o .pos); price = o .price; n1b = o .n1b }
 
 unfoldable pub holdRows : List Hold → List HoldRow
 holdRows os = map holdRow os

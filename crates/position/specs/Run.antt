@@ -118,7 +118,7 @@ feedLine n st = line (bytes "F" ∷ decimalOf n ∷ integerOf (posSign (st .head
 unfoldable pub pairLine : Pair → List ℕ
 pairLine p =
     line
-    (bytes "R" ∷ p .symbol ∷ p .mark ∷ sideText (p .side) ∷ integerOf (p .openLocal) ∷ integerOf (p .closeLocal)
+    (bytes "R" ∷ p .symbol ∷ p .mark ∷ sideText (p .side) ∷ integerOf (p .openLocal .0) ∷ integerOf (p .closeLocal .0)
     ∷ hexBits (p .openPrice) ∷ hexBits (p .closePrice) ∷ integerOf (p .ids) ∷ p .sequence ∷ hexBits (p .days) ∷ yieldText (p .yield) ∷ [])
 
 -- "holds as H"

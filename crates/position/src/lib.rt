@@ -3,6 +3,7 @@
 use bar::Bar;
 use bar::LocalTime;
 use bar::Time;
+use double::Side;
 use double::Yield;
 
 pub enum Pos {
@@ -67,6 +68,22 @@ pub struct Hold {
     pub pos: Pos,
     pub price: f64,
     pub n1b: Yield,
+}
+
+// A pair as a row: its side, both local times, both prices, the id difference, days, the yield, and the lengths of symbol, mark and
+// sequence in the row buffer.
+pub struct PairRow {
+    pub side: Side,
+    pub opened: LocalTime,
+    pub closed: LocalTime,
+    pub from: f64,
+    pub to: f64,
+    pub ids: i64,
+    pub days: f64,
+    pub bp: Yield,
+    pub symbol: usize,
+    pub mark: usize,
+    pub sequence: usize,
 }
 
 // A hold as a row: its local time, -1, 0 or 1, its price and its yield.

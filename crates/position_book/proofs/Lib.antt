@@ -1,3 +1,2 @@
 -- Laws of the exported calls.
-pub mod Laws
 pub mod Results

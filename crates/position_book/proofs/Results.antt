@@ -22,11 +22,12 @@ use Rattle.blocks.specs.Read.{blockReadOf, BlockAs}
 use Rattle.blocks.specs.declared.BlockRead.{BlockRead}
 use Rattle.titles.specs.Read.{nameReadOf, NameAs}
 use Rattle.titles.specs.declared.NameRead.{NameRead}
-use Rattle.answer.specs.Rows.{feedAnswer, pairAnswer, blockAnswer, lengthAnswer}
+use Rattle.answer_alone.specs.Calls.{lengthAnswer}
+use Rattle.answer_alone.specs.declared.NameAnswer.{NameAnswer}
+use Rattle.answer.specs.Rows.{feedAnswer, pairAnswer, blockAnswer}
 use Rattle.answer.specs.declared.FeedAnswer.{FeedAnswer}
 use Rattle.answer.specs.declared.PairAnswer.{PairAnswer}
 use Rattle.answer.specs.declared.BlockAnswer.{BlockAnswer}
-use Rattle.answer.specs.declared.NameAnswer.{NameAnswer}
 use Rattle.position_book.specs.Results.{StoreIs, FeedIs, PairIs, BlockIs, EventNameIs}
 
 -- the number does not depend on the bytes

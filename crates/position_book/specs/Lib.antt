@@ -1,4 +1,2 @@
 -- The definitions of the exported calls.
-pub mod Calls
 pub mod Results
-pub mod Read

@@ -9,9 +9,9 @@ use double::Side;
 use holds::HoldRead;
 use holds::hold_row;
 use pairs::PairRead;
-use pairs::PairRow;
 use pairs::pair_row;
 use position::HoldRow;
+use position::PairRow;
 use titles::NameRead;
 use titles::event_name;
 

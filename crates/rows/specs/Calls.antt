@@ -11,6 +11,7 @@ use Rattle.sheet.specs.Sheet.{nameLimit}
 use Rattle.table.specs.Layout.{tableLength}
 use Rattle.table.specs.Table.{readTable}
 use Rattle.position.specs.Rows.{Pair, pairsOf, holdRows}
+use Rattle.position.specs.declared.PairRow.{PairRow}
 use Rattle.position.specs.declared.HoldRow.{HoldRow}
 use Rattle.book.specs.Layout.{recordsOf, holdsOf}
 use Rattle.book.specs.Calls.{sized, checked}
@@ -39,6 +40,23 @@ pairText p = p .symbol ++ p .mark ++ p .sequence
 abbrev pub pairBytes : List ℕ → Answer Pair → List ℕ
 pairBytes buffer (Refused n) = buffer
 pairBytes buffer (Got p) = patch buffer 0 (pairText p)
+
+-- "their lengths returned": a pair's values, and of its texts the lengths
+abbrev pub pairRow : Pair → PairRow
+pairRow p =
+    record {
+      side = p .side;
+      opened = p .openLocal;
+      closed = p .closeLocal;
+      from = p .openPrice;
+      to = p .closePrice;
+      ids = p .ids;
+      days = p .days;
+      bp = p .yield;
+      symbol = length (p .symbol);
+      mark = length (p .mark);
+      sequence = length (p .sequence);
+    }
 
 unfoldable pub holdDo : List ℕ → List ℕ → ℤ → Answer HoldRow
 holdDo table b i = do

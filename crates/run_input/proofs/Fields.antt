@@ -19,7 +19,7 @@ use Rattle.le.proofs.Signs.{back}
 use Rattle.text.specs.Literal.{bytes}
 use Rattle.text.specs.Number.{digitsTo, plus, signedTo, bitsOf, hexDigits}
 use Rattle.text.specs.Text.{pipe, split}
-use Rattle.sheet.specs.Lines.{fieldsOf}
+use Rattle.sheet.specs.Places.{fieldsOf}
 use Rattle.sheet.proofs.Fields.{Cut, last-field}
 use Rattle.position.specs.Run.{barLine}
 use Rattle.run_input.specs.Lines.{BarAs}

@@ -17,7 +17,7 @@ use Rattle.le.proofs.Signs.{back, step}
 use Rattle.text.specs.Number.{natural, atMost, digitsTo, plus, negated, signedTo}
 use Rattle.text.specs.Read.{Part}
 use Rattle.text.proofs.Laws.{part-cons, part-nil, part-end}
-use Rattle.text.proofs.Digits.{decimal-few, decimal-long}
+use Rattle.text_number.proofs.Digits.{decimal-few, decimal-long}
 
 -- ---- how large
 

@@ -2,13 +2,13 @@
 use le::Real;
 use le::real_of;
 use text::LF;
-use text::Number;
 use text::PIPE;
 use text::count_parts;
-use text::decimal;
 use text::find;
 use text::part_eq;
-use text::read_hex;
+use text_number::Number;
+use text_number::decimal;
+use text_number::read_hex;
 ghost use mathlib.Core.Path.{_≡_};
 ghost use Prim.Native.Nat.{_≤_};
 ghost use lib.Ieee.{binary64, ofBits};

@@ -11,7 +11,7 @@ use Rattle.text.specs.Text.{pipe}
 use Rattle.text.specs.Number.{integerOf, hexOf}
 use Rattle.text.specs.Read.{Part, Put}
 use Rattle.text.proofs.Put.{put-put}
-use Rattle.text.proofs.Written.{length-hex}
+use Rattle.text_write.proofs.Written.{length-hex}
 use Rattle.header_check.proofs.Fields.{bytes-are}
 use Rattle.run_output.specs.Shown.{fieldsText, ShortPut}
 use Rattle.run_output.proofs.Lines.{put-more, put-one}

@@ -16,7 +16,7 @@ use Rattle.le.proofs.Signs.{back, step, sign, not-below, minus-one, plain}
 use Rattle.text.specs.Number.{decimalOf, integerOf}
 use Rattle.text.specs.Read.{Put}
 use Rattle.text.proofs.Put.{put-put}
-use Rattle.text.proofs.Written.{length-decimal}
+use Rattle.text_write.proofs.Written.{length-decimal}
 use Rattle.run_output.specs.Shown.{ShortPut}
 use Rattle.run_output.proofs.Short.{short-as}
 

@@ -12,8 +12,8 @@ use Rattle.double.specs.declared.Yield.{Yield}
 use Rattle.double.specs.declared.Yield.the-variants.{Absent, Bp}
 use Rattle.position.specs.Rows.{Pair}
 use Rattle.position.specs.declared.HoldRow.{HoldRow}
+use Rattle.position.specs.declared.PairRow.{PairRow}
 use Rattle.rows.specs.Calls.{rowBuffer}
-use Rattle.pairs.specs.declared.PairRow.{PairRow}
 
 -- fields that others follow
 unfoldable pub fieldsText : List (List ℕ) → List ℕ
@@ -41,8 +41,8 @@ pairIn r buffer =
       symbol = part buffer 0 (r .symbol);
       mark = part buffer (r .symbol) (r .mark);
       side = r .side;
-      openLocal = r .opened .0;
-      closeLocal = r .closed .0;
+      openLocal = r .opened;
+      closeLocal = r .closed;
       openPrice = r .from;
       closePrice = r .to;
       ids = r .ids;

@@ -1,14 +1,14 @@
 // The lines that the run program prints, written to a buffer: a feed, a pair row, a hold row, a refusal.
 use double::Side;
 use double::Yield;
-use pairs::PairRow;
 use position::HoldRow;
+use position::PairRow;
 use text::LF;
 use text::PIPE;
 use text::put_byte;
-use text::put_decimal;
-use text::put_hex;
 use text::put_part;
+use text_write::put_decimal;
+use text_write::put_hex;
 ghost use mathlib.Core.List.{[], _∷_, _++_};
 ghost use mathlib.Core.Bool.{not};
 ghost use Prim.Native.Nat.{_+_, _-_, _≤_};

@@ -2,34 +2,28 @@
 -- Assumes nothing.
 use Prim.Native.Nat.{ℕ, zero, suc, _≤_}
 use native.Mathlib.Omega.{arith}
-use mathlib.Core.Bool.{Bool, true, false, not, cond}
-use mathlib.Core.List.{List, [], _∷_, map}
+use mathlib.Core.Bool.{Bool, true, false, cond}
+use mathlib.Core.List.{List, [], _∷_}
 use mathlib.Core.Option.{some}
 use mathlib.Core.Path.{_≡_, sym, ap, subst, _∙_}
 use mathlib.Mathlib.Data.List.Defs.{Forall}
 use mathlib.Mathlib.Data.List.Basic.{forall-cons}
-use lib.Dec.{T}
 use lib.IntN.{ℤ}
-use lib.Ieee.{isNan}
 use lib.ListN.{length, getElem?, length-map}
 use Rattle.text.specs.Answer.{given}
-use Rattle.double.specs.Double.{yieldOk}
-use Rattle.double.specs.declared.Yield.{Yield}
-use Rattle.double.specs.declared.Yield.the-variants.{Absent, Bp}
 use Rattle.sheet.specs.Sheet.{Sheet}
 use Rattle.table.proofs.Facts.{read-is}
 use Rattle.position.specs.State.{State}
-use Rattle.position.specs.Rows.{Pair, opens, pairOf, pairsOf, holdRow, holdRows}
+use Rattle.position.specs.Rows.{Pair, opens, pairOf, pairsOf, holdRows}
 use Rattle.position.specs.Run.{runBars}
 use Rattle.position.specs.declared.Record.{Record}
 use Rattle.position.specs.declared.Hold.{Hold}
 use Rattle.position.specs.declared.HoldRow.{HoldRow}
-use Rattle.position_laws.proofs.Sound.{HoldOk, RecordOk, YieldOk}
 use Rattle.book.specs.Layout.{recordsOf, holdsOf}
 use Rattle.book.proofs.Ready.{holds-kept, records-kept}
-use Rattle.field.proofs.Laws.{not-nan}
 use Rattle.rows.specs.Calls.{rowBuffer, rowAt, pairDo, holdDo}
-use Rattle.pairs.proofs.Numbers.{PairNumbers, pair-numbers}
+use Rattle.history.specs.Demand3.{PairNumbers, HoldNumbers}
+use Rattle.history.proofs.Numbers.{pairs-numbers, holds-numbers}
 use Rattle.history.proofs.Kept.{pair-is, hold-is}
 use Rattle.run_rows.specs.Rows.{Booked, pairRows}
 
@@ -44,40 +38,6 @@ pairs-few s (a ∷ b ∷ rs) = go (opens a) (pairs-few s (b ∷ rs))
     go : (t : Bool) → length (pairsOf s (b ∷ rs)) ≤ length (b ∷ rs) → length (cond t (pairOf s a b ∷ pairsOf s (b ∷ rs)) (pairsOf s (b ∷ rs))) ≤ length (a ∷ b ∷ rs)
     go true h = omega arith
     go false h = omega arith
-
-pairs-numbers : (s : Sheet) (rs : List Record) → Forall (RecordOk s) rs → Forall PairNumbers (pairsOf s rs)
-unfolding pairsOf Forall
-pairs-numbers s [] h = tt
-pairs-numbers s (a ∷ []) h = tt
-pairs-numbers s (a ∷ b ∷ rs) h =
-    let one = forall-cons (RecordOk s) a (b ∷ rs) .0 h in
-    let two = forall-cons (RecordOk s) b rs .0 (one .1) in
-    go (opens a) (pair-numbers s a b (one .0 .bar .price) (two .0 .bar .price)) (pairs-numbers s (b ∷ rs) (one .1))
-  where
-    go : (t : Bool) → PairNumbers (pairOf s a b) → Forall PairNumbers (pairsOf s (b ∷ rs))
-        → Forall PairNumbers (cond t (pairOf s a b ∷ pairsOf s (b ∷ rs)) (pairsOf s (b ∷ rs)))
-    go true p ps = forall-cons PairNumbers (pairOf s a b) (pairsOf s (b ∷ rs)) .1 (p, ps)
-    go false p ps = ps
-
--- the doubles of a hold row
-pub record HoldNumbers (o : HoldRow) : Type 0 where
-  pub price : T (not (isNan (o .price)))
-  pub n1b : T (yieldOk (o .n1b))
-
-yield-number : (y : Yield) → YieldOk y → T (yieldOk y)
-yield-number Absent h = tt
-yield-number (Bp x) h = rw (h .0) tt
-
-hold-numbers : (o : Hold) → HoldOk o → HoldNumbers (holdRow o)
-unfolding holdRow
-hold-numbers o h = record { price = not-nan (o .price) (h .price); n1b = yield-number (o .n1b) (h .n1b) }
-
-holds-numbers : (os : List Hold) → Forall HoldOk os → Forall HoldNumbers (holdRows os)
-unfolding holdRows Forall
-holds-numbers [] h = tt
-holds-numbers (o ∷ os) h =
-    let each = forall-cons HoldOk o os .0 h in
-    forall-cons HoldNumbers (holdRow o) (map holdRow os) .1 (hold-numbers o (each .0), holds-numbers os (each .1))
 
 forall-at : {X : Type 0} (P : X → Type 0) (xs : List X) → Forall P xs → (i : ℕ) (x : X) → getElem? xs i ≡ some x → P x
 forall-at P [] h i x e = absurd (let z : _≡_ {A = ℕ} 0 1 = cc in omega arith)

@@ -19,10 +19,10 @@ use Rattle.double.specs.declared.Yield.the-variants.{Absent, Bp}
 use Rattle.position.specs.Rows.{Pair, holdRows}
 use Rattle.position.specs.Run.{runBars, pairLine, holdLine}
 use Rattle.position.specs.declared.HoldRow.{HoldRow}
+use Rattle.position.specs.declared.PairRow.{PairRow}
 use Rattle.book.specs.Layout.{holdsOf}
-use Rattle.rows.specs.Calls.{rowBuffer, rowAt, pairDo, pairText, pairBytes, holdDo}
-use Rattle.pairs.specs.Read.{pairRow, pairReadOf, PairAs}
-use Rattle.pairs.specs.declared.PairRow.{PairRow}
+use Rattle.rows.specs.Calls.{rowBuffer, rowAt, pairDo, pairText, pairBytes, pairRow, holdDo}
+use Rattle.pairs.specs.Read.{pairReadOf, PairAs}
 use Rattle.pairs.specs.declared.PairRead.{PairRead}
 use Rattle.pairs.specs.declared.PairRead.the-variants as PairRead
 use Rattle.pairs.proofs.Texts.{pair-room}
@@ -81,7 +81,7 @@ module _ {table b before after : List ℕ} (i : ℕ) {r : PairRead} (k : Booked 
         let kept : length (patch before 0 (pairText p)) ≡ length before = rw (← texts) size in
         let room = pair-room p before kept in
         rw (found .2)
-        (record { from = n .from; to = n .to; days = n .days; bp = yield-shown (p .yield) (n .bp); texts = omega arith; short = omega arith })
+        (record { from = n .openPrice; to = n .closePrice; days = n .days; bp = yield-shown (p .yield) (n .yield); texts = omega arith; short = omega arith })
 
     pub pair-printed : (out : List ℕ) (at : ℕ) (q : List ℕ) (n : ℕ) → at + pairRoom ≤ length out
         → Put (take (at + pairRoom - at) (drop at out)) q 0 (pairLine (pairIn row after)) n

@@ -13,7 +13,7 @@ use Rattle.text.specs.Literal.{bytes, encoded}
 use Rattle.text.specs.Number.{decimalOf}
 use Rattle.text.specs.Read.{Put}
 use Rattle.text.proofs.Put.{put-put, put-whole}
-use Rattle.text.proofs.Written.{length-decimal}
+use Rattle.text_write.proofs.Written.{length-decimal}
 use Rattle.operate.specs.Operate.{chinese, LE, SE}
 use Rattle.operate.specs.Read.{Name}
 use Rattle.position.specs.Rows.{closeName}

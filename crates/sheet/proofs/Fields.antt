@@ -14,7 +14,7 @@ use Rattle.text.specs.Text.{same, split, onto, pipe}
 use Rattle.text.specs.Read.{Part, FirstAt}
 use Rattle.text.proofs.Laws.{part-cons}
 use Rattle.text.proofs.Parts.{onto-count, split-some, split-next, split-last}
-use Rattle.sheet.specs.Lines.{fieldsOf}
+use Rattle.sheet.specs.Places.{fieldsOf}
 
 -- ---- how many
 

@@ -3,11 +3,10 @@ use Rattle.le.proofs.Opened.{opened as opened-le}
 use Rattle.list.proofs.Opened.{opened as opened-list}
 use Rattle.operate.proofs.Opened.{opened as opened-operate}
 use Rattle.signal.proofs.Opened.{opened as opened-signal}
-use Rattle.sheet.specs.Lines.{settingsLine}
 use Rattle.sheet.specs.Places.{clauseAt, eventAt, clausesBefore, sheetAt}
 use Rattle.sheet.specs.Read.{positionLine, eventLine, addClause, clauseLine, laterLine, readSheet}
 use Rattle.sheet.specs.Sheet.{clauseCount}
 
 unfoldable pub opened : Unit {0}
-unfolding opened-le opened-list opened-operate opened-signal settingsLine clauseAt eventAt clausesBefore sheetAt positionLine eventLine addClause clauseLine laterLine readSheet clauseCount
+unfolding opened-le opened-list opened-operate opened-signal clauseAt eventAt clausesBefore sheetAt positionLine eventLine addClause clauseLine laterLine readSheet clauseCount
 opened = tt

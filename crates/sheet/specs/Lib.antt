@@ -2,4 +2,3 @@
 pub mod Sheet
 pub mod Read
 pub mod Places
-pub mod Lines

@@ -8,6 +8,7 @@ use lib.Seq.{slice}
 use Rattle.list.specs.Numbered.{rows}
 use Rattle.le.specs.Le.{part}
 use Rattle.text.specs.Answer.{Answer, Refused, Got}
+use Rattle.text.specs.Text.{split, pipe}
 use Rattle.signal.specs.Read.{SignalOk, signalIn}
 use Rattle.signal.specs.declared.SignalAt.{SignalAt}
 use Rattle.sheet.specs.Sheet.{kindOf, Clause, Event, Sheet, eventLimit, clauseLimit, nameLimit, intervalLimit, timeoutLimit, stopLimit, t0Limit}
@@ -15,6 +16,10 @@ use Rattle.sheet.specs.Read.{readSheet}
 use Rattle.sheet.specs.declared.SheetAt.{SheetAt}
 use Rattle.sheet.specs.declared.SheetRead.{SheetRead}
 use Rattle.sheet.specs.declared.SheetRead.the-variants.{Is, PastLimit, NotUtf8, Malformed, BadNumber, UnknownOperate, NotSeven, BadScore}
+
+-- the fields of s in from..to
+abbrev pub fieldsOf : List ℕ → ℕ → ℕ → List (List ℕ)
+fieldsOf s from to = split pipe (slice from to s)
 
 -- ---- clauses: nine numbers each
 

@@ -13,9 +13,9 @@ use lib.ListN.{length}
 use lib.Seq.{slice}
 use Rattle.text.specs.Text.{split, underscore}
 use Rattle.text.specs.Number.{i32Of}
-use Rattle.text.specs.Read.{intOf}
-use Rattle.text.specs.declared.Int.{Int}
-use Rattle.text.specs.declared.Int.the-variants.{Plus, Minus, Not}
+use Rattle.text_number.specs.Read.{intOf}
+use Rattle.text_number.specs.declared.Int.{Int}
+use Rattle.text_number.specs.declared.Int.the-variants.{Plus, Minus, Not}
 use Rattle.signal.specs.Signal.{score, scoreLimit, signalOf}
 use Rattle.signal.specs.Value.{valueOf}
 use Rattle.signal.specs.Read.{partsFrom, Cuts, ReadAs, ValueAs}

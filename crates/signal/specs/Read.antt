@@ -8,7 +8,8 @@ use lib.ListN.{length}
 use lib.Seq.{slice}
 use Rattle.text.specs.Answer.{Answer, Refused, Got}
 use Rattle.text.specs.Text.{same, split, underscore}
-use Rattle.text.specs.Read.{intOf, Put}
+use Rattle.text.specs.Read.{Put}
+use Rattle.text_number.specs.Read.{intOf}
 use Rattle.signal.specs.Signal.{Signal, keyOf, wildcard, scoreLimit, signalOf, signalAlone}
 use Rattle.signal.specs.Value.{Value, valued, valueOf}
 use Rattle.signal.specs.declared.Three.{Three}

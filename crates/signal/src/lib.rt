@@ -1,21 +1,22 @@
 // Signals, their keys, and a bar's values.
-use text::Int;
-use text::Number;
 use text::UNDERSCORE;
 use text::find;
 use text::part_eq;
 use text::put_byte;
 use text::put_part;
-use text::read_i32;
-use utf8::Alone;
+use text_number::Int;
+use text_number::Number;
+use text_number::read_i32;
+use utf8_text::Alone;
 ghost use mathlib.Core.Path.{_≡_};
 ghost use Prim.Native.Nat.{_+_, _-_, _<_, _≤_};
 ghost use lib.ListN.{length};
 ghost use lib.Seq.{slice};
 ghost use Rattle.text.specs.Text.{same};
-ghost use Rattle.text.specs.Read.{Part, numberOf, intOf};
+ghost use Rattle.text.specs.Read.{Part};
+ghost use Rattle.text_number.specs.Read.{numberOf, intOf};
 ghost use Rattle.signal.specs.Signal.{wildcard, score as Signal·score};
-ghost use Rattle.signal.specs.Read.{ThreeFrom, LastFrom, SignalOk, ReadAs, AloneAs, KeyPut, KeyAt, ValueAs};
+ghost use Rattle.signal.specs.Read.{ThreeFrom, LastFrom, signalIn, SignalOk, ReadAs, AloneAs, keyPart, KeyPut, KeyAt, ValueAs};
 
 // The highest score of a signal.
 pub const SCORE_LIMIT: u64 = 100;
@@ -152,7 +153,7 @@ pub fn from_str(s: &[u8]) -> SignalRead
 pub fn signal_alone(s: &[u8]) -> SignalAlone
     ensures { λ r. ⌜ AloneAs (now (s .entry)) r ⌝ }
 {
-    match utf8::check_alone(s) {
+    match utf8_text::check_alone(s) {
         Alone::TooLong => SignalAlone::TooLong,
         Alone::NotUtf8 => SignalAlone::NotUtf8,
         Alone::Marked => SignalAlone::Marked,
@@ -175,7 +176,7 @@ pub fn is_wild(s: &[u8], from: usize, to: usize) -> bool
 // Adds s in from..to to the key that ends at `end` of dst, unless it is the wildcard.
 fn put_key_part(dst: &mut [u8], end: KeyEnd, s: &[u8], from: usize, to: usize) -> KeyEnd
     requires { ⌜ Part (now s) from to ⌝ }
-    requires { ⌜ end .at + (to - from) + 1 ≤ length (now dst) ⌝ }
+    requires { ⌜ end .at + length (keyPart (end .some) (slice from to (now s))) ≤ length (now dst) ⌝ }
     ensures { λ r. ⌜ KeyPut (now (dst .entry)) (now (dst .exit)) end (now (s .entry)) from to r ⌝ }
 {
     if is_wild(s, from, to) {
@@ -194,7 +195,7 @@ fn put_key_part(dst: &mut [u8], end: KeyEnd, s: &[u8], from: usize, to: usize) -
 // Writes the key of a signal in s to dst at `at`, and answers the place behind it.
 pub fn put_key(dst: &mut [u8], at: usize, s: &[u8], a: SignalAt) -> usize
     requires { ⌜ SignalOk (now s) a ⌝ }
-    requires { ⌜ at + a .k3 + 1 ≤ length (now dst) ⌝ }
+    requires { ⌜ at + length (signalIn (now s) a .key) ≤ length (now dst) ⌝ }
     ensures { λ r. ⌜ KeyAt (now (dst .entry)) (now (dst .exit)) at (now (s .entry)) a r ⌝ }
 {
     let k1 = a.k1;

@@ -1,5 +1,6 @@
 -- The laws of the compiled table.
 pub mod Rows
+pub mod Walks
 pub mod Heads
 pub mod Spans
 pub mod Facts

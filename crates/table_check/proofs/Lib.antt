@@ -1,13 +1,5 @@
--- The laws of the table check.
-pub mod Heads
-pub mod Walks
-pub mod Texts
-pub mod Events
-pub mod Clauses
-pub mod Words
-pub mod Ranks
-pub mod Rising
-pub mod Vocabulary
+-- The laws of the table check, and worked examples.
+pub mod Spans
 pub mod Parts
-pub mod Examples
+mod Examples
 pub mod Opened

@@ -9,10 +9,7 @@ pub mod Every
 pub mod Parts
 pub mod Joined
 pub mod Lines
-pub mod Digits
 pub mod Put
 pub mod Zeros
-pub mod Written
-pub mod Hex
 mod Examples
 pub mod Opened

@@ -1,4 +1,4 @@
--- The definitions of texts: answers, quoted texts, lines, fields and parts, numbers, and what the code's answers mean.
+-- The definitions of texts: answers, quoted texts, lines, fields and parts, numbers, and places.
 pub mod Answer
 pub mod Literal
 pub mod Text

@@ -2,20 +2,17 @@
 use mathlib.Core.Path.{_≡_, _∙_, refl, sym, ap}
 use mathlib.Core.Logic.{_≢_}
 use mathlib.Core.List.{List, [], _∷_}
-use mathlib.Core.Bool.{Bool, true, false, cond, not, _||_, and-false}
+use mathlib.Core.Bool.{Bool, true, false, cond, and-false}
 use mathlib.Core.Option.{Option, none, some}
-use Prim.Native.Nat.{ℕ, suc, _+_, _-_, _/_, _≤_, _<_}
+use Prim.Native.Nat.{ℕ, suc, _+_, _-_, _≤_, _<_}
 use native.Mathlib.Decide.{decLe}
 use native.Mathlib.Numerals.{add-one}
 use native.Mathlib.Omega.{arith}
-use borrow.Author.Tests.{le-leb, lt-leb, eqb-true}
-use lib.Dec.{leb, eqb}
+use borrow.Author.Tests.{le-leb, lt-leb}
+use lib.Dec.{leb}
 use lib.Seq.{drop-cons}
 use lib.ListN.{length, getD, drop, replicate, drop-of-length-le}
-use Rattle.text.specs.Answer.{Refused, _>>=_, must}
-use Rattle.text.specs.Text.{has, LF, pipe}
 use Rattle.utf8.specs.Utf8.{Range, to, inside, utf8Tail, after, step, right, utf8}
-use Rattle.utf8.specs.Alone.{textLimit, text, alone}
 use Rattle.utf8.specs.Read.{Read, Passed, CharAt}
 use Rattle.utf8.specs.declared.Char.{Char}
 use Rattle.utf8.specs.declared.Char.the-variants.{Next, Wrong}
@@ -190,42 +187,3 @@ module _ {s : List ℕ} {i : ℕ} {whole : Bool} {j : ℕ} (r : Passed s i whole
   pub passed-all : length s ≤ j → true ≡ whole
   unfolding right
   passed-all h = sym (r .same ∙ rw (drop-of-length-le s h))
-
--- k bytes of a block are read, and low of them are ASCII
-pub record Block (s : List ℕ) (i low k : ℕ) : Type 0 where
-  pub few : k ≤ 16
-  pub most : low ≤ k
-  pub ascii : low ≡ k → Passed s i (utf8 (drop i s)) (i + k)
-
-pub block-start : (s : List ℕ) (i : ℕ) → i + 16 ≤ length s → Block s i 0 0
-block-start s i h =
-    let e : i + 0 ≡ i = omega arith in
-    record { few = omega arith; most = omega arith; ascii = λ _. rw e (passed-start s i (omega arith)) }
-
-module _ {s : List ℕ} {i low k : ℕ} (b : Block s i low k) where
-  pub block-more : (x : ℕ) → i + 16 ≤ length s → k < 16 → x ≡ getD s (i + k) 0 → Block s i (low + (255 - x) / 128) (k + 1)
-  block-more x h l e =
-      let n : i + (k + 1) ≡ i + k + 1 = omega arith in
-      record {
-        few = omega arith;
-        most = omega arith;
-        ascii = λ z. rw n (passed-ascii (b .ascii (omega arith)) (omega arith) (omega arith));
-      }
-
-  pub block-end : 16 ≤ k → eqb low 16 ≡ true → Passed s i (utf8 (drop i s)) (i + 16)
-  block-end h e =
-      let q = eqb-true low 16 e in
-      let n : k ≡ 16 = omega arith in
-      rw n at (b .ascii (omega arith))
-
--- ---- a text that stands alone
-
-pub alone-long : (s : List ℕ) → textLimit < length s → Refused 7 ≡ alone s
-unfolding alone text
-alone-long s h = rw (lt-leb (length s) textLimit h)
-
--- from the outcomes of the further tests
-pub alone-short : (s : List ℕ) (right pipes lines : Bool) → length s ≤ textLimit → right ≡ utf8 s → pipes ≡ has pipe s → lines ≡ has LF s →
-    (must 1 right >>= λ _. must 2 (not (pipes || lines))) ≡ alone s
-unfolding alone text
-alone-short s right pipes lines h r p l = rw (le-leb (length s) textLimit h, r, p, l)

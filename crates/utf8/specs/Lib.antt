@@ -2,4 +2,3 @@
 pub mod Utf8
 pub mod Alone
 pub mod Read
-pub mod Common

@@ -5,13 +5,10 @@ use mathlib.Core.Bool.{Bool, false}
 use mathlib.Core.List.{List, [], _∷_}
 use mathlib.Core.Option.{Option, some}
 use lib.ListN.{length, drop, replicate}
-use Rattle.text.specs.Answer.{Answer, Refused, Got}
 use Rattle.utf8.specs.Utf8.{Range, to, utf8Tail, right}
 use Rattle.utf8.specs.declared.Need.{Need}
 use Rattle.utf8.specs.declared.Char.{Char}
 use Rattle.utf8.specs.declared.Char.the-variants.{Next, Wrong}
-use Rattle.utf8.specs.declared.Alone.{Alone}
-use Rattle.utf8.specs.declared.Alone.the-variants.{Fine, TooLong, NotUtf8, Marked}
 
 -- a byte in lo..hi and `more` tails are to come
 abbrev pub asks : ℕ → ℕ → ℕ → Option (List Range)
@@ -34,10 +31,3 @@ Passed s i whole r = Read s i whole (some []) r
 abbrev pub CharAt : List ℕ → ℕ → Bool → Char → Type 0
 CharAt s i whole (Next r) = Passed s i whole r
 CharAt s i whole Wrong = whole ≡ false
-
--- the number of each answer
-abbrev pub aloneOf : Alone → Answer (Unit {0})
-aloneOf Fine = Got tt
-aloneOf TooLong = Refused 7
-aloneOf NotUtf8 = Refused 1
-aloneOf Marked = Refused 2

@@ -7,8 +7,8 @@ use position_book::position_book_operate;
 use position_book::position_book_operate_name;
 use position_book::position_book_signal;
 use signal::ValueRead;
-use text::Int;
-use text::Number;
+use text_number::Int;
+use text_number::Number;
 ghost use mathlib.Core.Path.{_≡_};
 ghost use lib.ListN.{length};
 
@@ -66,7 +66,7 @@ pub fn bytes(s: &[u8]) {
 pub fn utf8(s: &[u8]) {
     let mut space = [0u8; 64];
     let n = ask::pairs(s, &mut space);
-    show::flag(utf8::valid(&space[..n]));
+    show::flag(utf8_text::valid(&space[..n]));
 }
 
 // N|text: how many parts the underscores make.
@@ -81,7 +81,7 @@ pub fn decimal(s: &[u8]) {
     if 18 < limit {
         return;
     }
-    match text::decimal(digits, 0, digits.len(), limit as usize) {
+    match text_number::decimal(digits, 0, digits.len(), limit as usize) {
         Number::Is(v) => show::number(v),
         Number::Bad => show::text(b"-"),
     }
@@ -89,7 +89,7 @@ pub fn decimal(s: &[u8]) {
 
 // I|text: the i32 that it is.
 pub fn int(s: &[u8]) {
-    show_int(text::read_i32(s, 0, s.len()));
+    show_int(text_number::read_i32(s, 0, s.len()));
 }
 
 // A number by its sign and magnitude: minus nothing is 0.
@@ -110,11 +110,11 @@ fn show_int(i: Int) {
 pub fn written(s: &[u8]) {
     let v = ask::bits(s);
     let mut decimal = [0u8; 20];
-    let n = text::put_decimal(&mut decimal, 0, v);
+    let n = text_write::put_decimal(&mut decimal, 0, v);
     show::part(&decimal, 0, n);
     next();
     let mut hex = [0u8; 16];
-    text::put_hex(&mut hex, 0, v);
+    text_write::put_hex(&mut hex, 0, v);
     show::text(&hex);
 }
 

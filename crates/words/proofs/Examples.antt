@@ -4,8 +4,6 @@ use mathlib.Core.Bool.{true, false}
 use mathlib.Core.List.{[], _∷_}
 use Rattle.text.specs.Literal.{bytes}
 use Rattle.words.specs.Words.{clean, wordOk, keyParts, valueParts, distinct, ordered}
-use Rattle.words.specs.Read.{orderOf}
-use Rattle.words.specs.declared.Order.the-variants.{Less, Same, More}
 use Rattle.words.proofs.Opened.{opened}
 
 -- a key has at most two underscores and no wildcard among its parts; a value has no underscore and is not the wildcard
@@ -23,11 +21,6 @@ values = (refl, refl, refl, refl)
 unclean : (clean (0x80 ∷ []) ≡ false) × (clean (bytes "a|b") ≡ false) × (clean (10 ∷ []) ≡ false) × (clean (bytes "任意") ≡ true)
 unfolding opened
 unclean = (refl, refl, refl, refl)
-
--- the shorter of two texts with a common start comes first
-orders : (orderOf (bytes "ab") (bytes "abc") ≡ Less) × (orderOf (bytes "b") (bytes "abc") ≡ More) × (orderOf (bytes "ab") (bytes "ab") ≡ Same)
-unfolding opened
-orders = (refl, refl, refl)
 
 -- three words by their orders and ranks, and what is wrong with others
 sorted : (ordered (bytes "up" ∷ bytes "down" ∷ bytes "left" ∷ []) (1 ∷ 2 ∷ 0 ∷ []) (2 ∷ 0 ∷ 1 ∷ []) ≡ true)

@@ -1,8 +1,7 @@
 -- Opens every definition of `words` and of what it leans on, for examples that compute. Assumes nothing.
 use Rattle.signal.proofs.Opened.{opened as opened-signal}
 use Rattle.words.specs.Words.{clean, wordOk, distinct, less, ascending, ranked, ordered}
-use Rattle.words.specs.Read.{paired, occurrences, orderOf}
 
 unfoldable pub opened : Unit {0}
-unfolding opened-signal clean wordOk distinct less ascending ranked ordered paired occurrences orderOf
+unfolding opened-signal clean wordOk distinct less ascending ranked ordered
 opened = tt

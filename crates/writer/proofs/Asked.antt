@@ -1,32 +1,36 @@
 -- What writing a table asks is so of a draft that is known to be right and within the limits. Assumes nothing.
-use Prim.Native.Nat.{ℕ, _*_, _≤_}
+use Prim.Native.Nat.{ℕ, _*_, _<_, _≤_}
 use native.Mathlib.Omega.{arith}
 use mathlib.Core.List.{List}
 use mathlib.Core.Path.{subst}
 use lib.ListN.{length}
-use Rattle.list.specs.Numbered.{numbered}
 use Rattle.sheet.specs.Places.{clauseNumbers, eventNumbers, SettingsOk}
 use Rattle.sheet.specs.declared.SheetAt.{SheetAt}
 use Rattle.table.specs.declared.Places.{Places}
-use Rattle.layout.specs.Fits.{SettingsFit, EventFits, ClauseFits, WordFits, AllAt, Sized}
+use Rattle.layout.specs.Fits.{SettingsFit, EventFits, Sized}
 use Rattle.layout.proofs.Table.{used-fits}
 use Rattle.layout.proofs.Sized.{numbered-all}
 use Rattle.wordbook.specs.Wordbook.{Book}
-use Rattle.draft.specs.Draft.{Words, wordRow, clauseRow, eventRow, draft, Drafted}
-use Rattle.writer.specs.Fits.{settingsOf, WordsFit, TextsFit, wordsLength, TableFits}
+use Rattle.draft.specs.Draft.{Words, eventRow, namesLength, draft, Drafted}
+use Rattle.writer_rows.specs.Rows.{WordsFit}
+use Rattle.writer_head.specs.Head.{settingsOf}
+use Rattle.writer.specs.Fits.{TextsFit, wordsLength, TableFits}
 use Rattle.writer.proofs.Table.{places-are}
+
+-- a name's place fits where its event's row does
+near : (es : List ℕ) (i : ℕ) → EventFits (eventRow es i) → namesLength es i < 65536
+unfolding eventRow
+near es i e = e .at
 
 settings-fit : {a : SheetAt} → SettingsOk a → SettingsFit (settingsOf a)
 settings-fit k = record { interval = omega arith; timeout = omega arith; stop = omega arith; t0 = omega arith }
 
-words-fit : {texts starts orders ranks : List ℕ} {n : ℕ} → Book texts starts orders ranks n → AllAt WordFits (numbered (wordRow starts orders ranks) n)
-    → WordsFit starts orders ranks n
-words-fit {texts} {starts} {orders} {ranks} {n} b f = record {
+words-fit : {texts starts orders ranks : List ℕ} {n : ℕ} → Book texts starts orders ranks n → WordsFit starts orders ranks n
+words-fit b = record {
   starts-room = b .starts-room;
   orders-room = b .orders-room;
   ranks-room = b .ranks-room;
   rising = b .rising;
-  each = numbered-all WordFits (wordRow starts orders ranks) n f;
 }
 
 module _ {s es cs : List ℕ} {a : SheetAt} {numbers codes : List ℕ} {ks vs : Words} (d : Drafted s es cs a numbers codes ks vs) where
@@ -51,10 +55,10 @@ module _ {s es cs : List ℕ} {a : SheetAt} {numbers codes : List ℕ} {ks vs : 
       let used = subst (λ (q : Places). q .used ≤ 28108) (places-are s es cs a numbers codes ks vs t) (used-fits z) in
       record {
         settings = settings-fit (d .sheet .settings);
-        events = record { room = he; each = numbered-all EventFits (eventRow es) (a .events) (z .eventRows) };
-        clauses = record { room = hc; keys = hn; values = hv; each = numbered-all ClauseFits (clauseRow cs numbers codes) (a .clauses) (z .clauseRows) };
-        keys = words-fit (d .keys) (z .keyRows);
-        values = words-fit (d .values) (z .valueRows);
+        events = record { room = he; near = λ i h. near es i (numbered-all EventFits (eventRow es) (a .events) (z .eventRows) i h) };
+        clauses = record { room = hc; keys = hn; values = hv };
+        keys = words-fit (d .keys);
+        values = words-fit (d .values);
         texts = t;
         room = omega (arith, used);
       }

@@ -5,8 +5,7 @@ use mathlib.Core.List.{List, [], _∷_}
 use lib.ListN.{length, getD, drop}
 use Rattle.text.specs.Literal.{bytes}
 use Rattle.sheet.specs.declared.SheetAt.{SheetAt}
-use Rattle.layout.specs.Fits.{EventFits, ClauseFits, WordFits}
-use Rattle.draft.specs.Draft.{Words, wordRow, clauseRow, eventRow}
+use Rattle.draft.specs.Draft.{Words, namesLength}
 use Rattle.writer.specs.Fits.{TableFits}
 use Rattle.writer.proofs.Opened.{opened}
 
@@ -31,38 +30,28 @@ codes = 1 ∷ 65535 ∷ 65535 ∷ []
 abbrev word : ℕ → List ℕ → Words
 word n l = record { texts = l; starts = 0 ∷ n ∷ []; orders = 0 ∷ []; ranks = 0 ∷ []; count = 1 }
 
-event-fits : (i : ℕ) → i < 1 → EventFits (eventRow es i)
+near : (i : ℕ) → i < 1 → namesLength es i < 65536
 unfolding opened
-event-fits zero h = record { kind = omega arith; operate = omega arith; at = omega arith; len = omega arith; first = omega arith; count = omega arith }
-event-fits (suc i) h = absurd (omega arith)
+near zero h = omega arith
+near (suc i) h = absurd (omega arith)
 
 name-in : (i : ℕ) → i < 1 → getD (drop (6 * i) es) 2 0 + getD (drop (6 * i) es) 3 0 ≤ length s
 unfolding opened s
 name-in zero h = omega arith
 name-in (suc i) h = absurd (omega arith)
 
-clause-fits : (i : ℕ) → i < 1 → ClauseFits (clauseRow cs numbers codes i)
-unfolding opened
-clause-fits zero h = record { kind = omega arith; key = omega arith; v1 = omega arith; v2 = omega arith; v3 = omega arith; score = omega arith }
-clause-fits (suc i) h = absurd (omega arith)
-
 rising : (n i : ℕ) → i < 1 → getD (0 ∷ n ∷ []) i 0 ≤ getD (0 ∷ n ∷ []) (i + 1) 0
 rising n zero h = omega arith
 rising n (suc i) h = absurd (omega arith)
-
-word-fits : (n : ℕ) → n < 65536 → (i : ℕ) → i < 1 → WordFits (wordRow (0 ∷ n ∷ []) (0 ∷ []) (0 ∷ []) i)
-unfolding opened
-word-fits n k zero h = record { at = omega arith; len = omega arith; rank = omega arith; order = omega arith }
-word-fits n k (suc i) h = absurd (omega arith)
 
 all-fits : TableFits s es cs a numbers codes (word 5 (bytes "a_b_c")) (word 1 (bytes "x"))
 unfolding opened s
 all-fits = record {
   settings = record { interval = omega arith; timeout = omega arith; stop = omega arith; t0 = omega arith };
-  events = record { room = omega arith; each = event-fits };
-  clauses = record { room = omega arith; keys = omega arith; values = omega arith; each = clause-fits };
-  keys = record { starts-room = omega arith; orders-room = omega arith; ranks-room = omega arith; rising = rising 5; each = word-fits 5 (omega arith) };
-  values = record { starts-room = omega arith; orders-room = omega arith; ranks-room = omega arith; rising = rising 1; each = word-fits 1 (omega arith) };
+  events = record { room = omega arith; near = near };
+  clauses = record { room = omega arith; keys = omega arith; values = omega arith };
+  keys = record { starts-room = omega arith; orders-room = omega arith; ranks-room = omega arith; rising = rising 5 };
+  values = record { starts-room = omega arith; orders-room = omega arith; ranks-room = omega arith; rising = rising 1 };
   texts = record {
     name = omega arith;
     symbol = omega arith;

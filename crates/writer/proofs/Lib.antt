@@ -1,6 +1,4 @@
 -- The laws of writing a table.
-mod Joined
-mod Rows
 mod Names
 mod Table
 pub mod Asked

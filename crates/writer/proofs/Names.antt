@@ -14,8 +14,9 @@ use Rattle.sheet.specs.Places.{eventNumbers}
 use Rattle.table.specs.Layout.{tableLength}
 use Rattle.draft.specs.Draft.{namesAt, namesLength}
 use Rattle.draft.proofs.Rows.{sum-end}
-use Rattle.writer.specs.Fits.{PutOf, NamesFit}
-use Rattle.writer.proofs.Rows.{from, lent, lent-room}
+use Rattle.writer_rows.specs.Rows.{PutOf}
+use Rattle.writer.specs.Fits.{NamesFit}
+use Rattle.writer_rows.proofs.Rows.{from, lent, lent-room}
 
 names-next : (es : List ℕ) (i : ℕ) → namesLength es (suc i) ≡ namesLength es i + getD (drop (eventNumbers * i) es) 3 0
 unfolding namesLength

@@ -14,7 +14,9 @@ use Rattle.layout.specs.Build.{eventBytes, clauseBytes, wordBytes, rowBytes, se
 use Rattle.layout.proofs.Fill.{put-table}
 use Rattle.draft.specs.Draft.{Words, wordRow, wordRows, wordTexts, clauseRow, clauseRows, namesAt, namesLength, eventRow, eventRows, draft}
 use Rattle.draft.proofs.Events.{names-within}
-use Rattle.writer.specs.Fits.{PutOf, NamesFit, settingsOf, countsOf, TextsFit, wordsLength, placesKept, TableFits}
+use Rattle.writer_rows.specs.Rows.{PutOf}
+use Rattle.writer_head.specs.Head.{settingsOf, countsOf}
+use Rattle.writer.specs.Fits.{NamesFit, TextsFit, wordsLength, placesKept, TableFits}
 
 -- the names are as long as they say
 names-length : {s es : List ℕ} {n : ℕ} → NamesFit s es n → (i : ℕ) → i ≤ n → length (namesAt s es i) ≡ namesLength es i

@@ -4,7 +4,7 @@ use borrow.Author.Needs.{needs}
 use Rattle.text.specs.Answer.{Refused}
 use Rattle.titles.specs.Read.{nameReadOf}
 use Rattle.titles.specs.declared.NameRead.{NameRead}
-use Rattle.answer.specs.Rows.{lengthAnswer}
+use Rattle.answer_alone.specs.Calls.{lengthAnswer}
 use Rattle.answer.proofs.Refusals.{name-refused}
 use Rattle.answer.proofs.name_answer.Statement.{statement}
 use Rattle.answer.proofs.name_answer.Tie as tie

@@ -1,10 +1,14 @@
 -- The key is put behind the last word, and is noted there. Assumes nothing.
+use Prim.Native.Nat.{_+_, _*_}
 use native.Mathlib.Omega.{arith}
 use borrow.Author.Needs.{needs}
-use Rattle.codes.proofs.Places.{key-start, key-signal, key-short, key-put}
+use Rattle.codes.proofs.Places.{key-start, key-signal, key-is, key-put}
 use Rattle.codes.proofs.Adding.{put-candidate, key-added}
 use Rattle.codes.proofs.note_key.Statement.{statement}
 use Rattle.codes.proofs.note_key.Tie as tie
+
+cast-from : tie.Need-cast-from
+cast-from c = omega (arith, c .shared-slice-known3 .given (9 * c .before .before .before .before .before .before .before .args .i + 1))
 
 sub-put-key : tie.Need-sub-put-key
 sub-put-key c =
@@ -20,7 +24,7 @@ put-key-requires : tie.Need-put-key-requires
 put-key-requires c κs =
     let w = c .before .before .before .before .before .before .before .before .before .before .before in (
       key-signal (w .args .s .now) (w .args .cs .now) (w .args .i) (w .pre .0) (c .signal-at .ensures),
-      omega (arith, key-short (w .args .s .now) (w .args .cs .now) (w .args .i) (w .pre .0) (c .signal-at .ensures), w .pre .1 .texts-room),
+      rw (key-is (w .args .s .now) (w .args .cs .now) (w .args .i) (w .pre .0) (c .signal-at .ensures)) (w .pre .1 .texts-room),
     )
 
 note-requires : tie.Need-note-requires
@@ -43,6 +47,8 @@ note-key-spec =
     (λ c. search needs)
     (λ c. search needs)
     (λ c. search needs)
+    (λ c. search needs)
+    cast-from
     (λ c. search needs)
     (λ c. search needs)
     (λ c. search needs)

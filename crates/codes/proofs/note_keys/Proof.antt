@@ -1,6 +1,5 @@
 -- The keys of all clauses, one after another. Assumes nothing.
 use Prim.Native.Nat.{_-_}
-use native.Mathlib.Omega.{arith}
 use borrow.Author.Needs.{needs}
 use Rattle.codes.proofs.Places.{row-ok}
 use Rattle.codes.proofs.Loops.{Keying, keying-first, keying-open, keying-more, keying-last}
@@ -17,14 +16,14 @@ abbrev μ-loop : tie.MeasureT-loop
 loop-holds : tie.Need-loop-holds Inv-loop μ-loop
 loop-holds c =
     let w = c .before .before .before .before .before .before .before in
-    keying-first (w .pre .0) (w .pre .1 .1)
+    keying-first (w .pre .0) (w .pre .1)
 
 note-key-requires : tie.Need-note-key-requires Inv-loop μ-loop
 note-key-requires c κs =
     let v = c .before .before .before .before in
     let w = v .before .before .before .before .before .before .before .before .before in (
       row-ok (w .pre .0) (v .before .loop .i) (v .loop-test .taken),
-      keying-open (w .pre .0) (w .pre .1 .1) (v .before .loop .inv) (v .loop-test .taken) (omega (arith, w .pre .1 .0)),
+      keying-open (w .pre .0) (w .pre .1) (v .before .loop .inv) (v .loop-test .taken),
     )
 
 loop-again : tie.Need-loop-again Inv-loop μ-loop
@@ -32,12 +31,12 @@ loop-again c =
     let u = c .before .before .before .before .before .before .before .before in
     let v = u .before .before .before .before .before in
     let w = v .before .before .before .before .before .before .before .before .before in
-    keying-more (w .pre .0) (w .pre .1 .1) (v .before .loop .inv) (v .loop-test .taken) (u .note-key .ensures)
+    keying-more (w .pre .0) (w .pre .1) (v .before .loop .inv) (v .loop-test .taken) (u .note-key .ensures)
 
 returns : tie.Need-returns Inv-loop μ-loop
 returns c =
     let w = c .before .before .before .before .before .before .before .before .before in
-    keying-last (w .pre .0) (w .pre .1 .1) (c .before .loop .inv) (c .loop-test .left)
+    keying-last (w .pre .0) (w .pre .1) (c .before .loop .inv) (c .loop-test .left)
 
 pub note-keys-spec : {M : Type 1} → statement M
 note-keys-spec =

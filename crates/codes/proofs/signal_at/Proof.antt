@@ -1,4 +1,6 @@
 -- Seven numbers, one field each. Assumes nothing.
+use Prim.Native.Nat.{_+_}
+use native.Mathlib.Omega.{arith}
 use borrow.Author.Needs.{needs}
 use Rattle.codes.proofs.Places.{signal-is}
 use Rattle.codes.proofs.signal_at.Statement.{statement}
@@ -16,22 +18,29 @@ signal-at-spec =
     (λ c. search needs)
     (λ c. search needs)
     (λ c. search needs)
+    (λ c. omega (arith, c .shared-slice-known .given (c .before .args .at + 2)))
     (λ c. search needs)
     (λ c. search needs)
     (λ c. search needs)
+    (λ c. omega (arith, c .shared-slice-known2 .given (c .before .before .args .at + 3)))
     (λ c. search needs)
     (λ c. search needs)
     (λ c. search needs)
+    (λ c. omega (arith, c .shared-slice-known3 .given (c .before .before .before .args .at + 4)))
     (λ c. search needs)
     (λ c. search needs)
     (λ c. search needs)
+    (λ c. omega (arith, c .shared-slice-known4 .given (c .before .before .before .before .args .at + 5)))
     (λ c. search needs)
     (λ c. search needs)
     (λ c. search needs)
+    (λ c. omega (arith, c .shared-slice-known5 .given (c .before .before .before .before .before .args .at + 6)))
     (λ c. search needs)
     (λ c. search needs)
     (λ c. search needs)
+    (λ c. omega (arith, c .shared-slice-known6 .given (c .before .before .before .before .before .before .args .at + 7)))
     (λ c. search needs)
     (λ c. search needs)
     (λ c. search needs)
+    (λ c. omega (arith, c .shared-slice-known7 .given (c .before .before .before .before .before .before .before .args .at + 8)))
     returns)

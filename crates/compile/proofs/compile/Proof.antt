@@ -9,7 +9,7 @@ use Rattle.compile.proofs.compile.Tie as tie
 use Rattle.compile.proofs.compile.Reads as reads
 use Rattle.compile.proofs.compile.Lts as lts
 use Rattle.compile.proofs.write.Reads as write-reads
-use Rattle.sheet.proofs.read_sheet.Reads as read-sheet-reads
+use Rattle.sheet_read.proofs.read_sheet.Reads as read-sheet-reads
 
 -- src/lib.rt:78:9
 returns : tie.Need-returns

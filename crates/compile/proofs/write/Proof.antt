@@ -1,9 +1,8 @@
 -- `compile::write` meets its contract: the keys are noted first. Assumes nothing.
-use Prim.Native.Nat.{ℕ, _*_}
+use Prim.Native.Nat.{ℕ}
 use native.Mathlib.Omega.{arith}
 use lib.ListN.{length-replicate}
 use borrow.Author.Needs.{needs}
-use Rattle.utf8.specs.Alone.{textLimit}
 use Rattle.compile.proofs.Steps.{sheet-clauses, fresh-room, keys-done}
 use Rattle.compile.proofs.write.Statement.{statement}
 use Rattle.compile.proofs.write.Tie as tie
@@ -36,7 +35,7 @@ slice-aggregate-note-keys-5 c = search needs
 note-keys-requires : tie.Need-note-keys-requires
 note-keys-requires c κs =
     let e = c .before .before .before .before .before .before .before .before .before in
-    (sheet-clauses (e .pre .1), (e .pre .1 .short, fresh-room 32768 256 (2 * textLimit) (e .args .a .clauses) (omega arith) (e .pre .1 .ok .short)))
+    (sheet-clauses (e .pre .1), fresh-room 256 (e .args .a .clauses) (omega arith) (e .pre .1 .ok .short))
 
 -- src/lib.rt:70:39
 slice-aggregate-write-values : tie.Need-slice-aggregate-write-values

@@ -3,7 +3,6 @@ use Prim.Native.Nat.{ℕ, _*_}
 use native.Mathlib.Omega.{arith}
 use lib.ListN.{length-replicate}
 use borrow.Author.Needs.{needs}
-use Rattle.utf8.specs.Alone.{textLimit}
 use Rattle.compile.proofs.Steps.{sheet-clauses, fresh-room, values-fit, values-mean}
 use Rattle.compile.proofs.write_values.Statement.{statement}
 use Rattle.compile.proofs.write_values.Tie as tie
@@ -36,7 +35,7 @@ slice-aggregate-note-values-5 c = search needs
 note-values-requires : tie.Need-note-values-requires
 note-values-requires c κs =
     let e = c .before .before .before .before .before .before .before .before .before .before .before .before .before .before in
-    (sheet-clauses (e .pre .1 .sheet), fresh-room 16384 768 textLimit (3 * e .args .a .clauses) (omega arith) (omega (arith, e .pre .1 .sheet .ok .short)))
+    (sheet-clauses (e .pre .1 .sheet), fresh-room 768 (3 * e .args .a .clauses) (omega arith) (omega (arith, e .pre .1 .sheet .ok .short)))
 
 -- src/lib.rt:55:45
 slice-aggregate-put-table : tie.Need-slice-aggregate-put-table

@@ -1,7 +1,7 @@
 -- The signals' refusals, or the bar with its signals. Assumes nothing.
 use mathlib.Core.Path.{refl, subst}
 use borrow.Author.Needs.{needs}
-use Rattle.event.specs.Places.{SignalsAs}
+use Rattle.event_signals.specs.Read.{SignalsAs}
 use Rattle.feed.proofs.Refusals.{signals-refused, signals-read}
 use Rattle.feed.proofs.feed_signals.Statement.{statement}
 use Rattle.feed.proofs.feed_signals.Tie as tie

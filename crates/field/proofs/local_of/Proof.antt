@@ -1,5 +1,4 @@
 -- The wall clock's time, for an offset in range. Assumes nothing.
-use mathlib.Core.Path.{_∙_}
 use Rattle.bar.proofs.Ranges.{time-small}
 use Rattle.field.proofs.Laws.{local-back}
 use Rattle.field.proofs.local_of.Statement.{statement}
@@ -11,7 +10,7 @@ local-requires c κs = time-small (c .before .before .args .t) (c .before .befor
 returns : tie.Need-returns
 returns c =
     let a = c .before .before .before in
-    c .local .ensures ∙ local-back (a .args .t) (a .pre)
+    local-back (a .args .t) (a .pre) (c .local .ensures)
 
 pub local-of-spec : {M : Type 1} → statement M
 local-of-spec = tie.close (tie.spec local-requires returns)

@@ -4,7 +4,7 @@ use mathlib.Core.List.{List}
 use Prim.Native.Nat.{ℕ, _+_}
 use native.Mathlib.Omega.{arith}
 use borrow.Author.Needs.{needs}
-use Rattle.event.specs.Steps.{FoundAt, FoundAs}
+use Rattle.event_find.specs.Steps.{FoundAt, FoundAs}
 use Rattle.matching.proofs.Clauses.{clause-key, whole-print, ValuePart, value-part, holds-not, holds-at}
 use Rattle.matching.proofs.clause_holds.Statement.{statement}
 use Rattle.matching.proofs.clause_holds.Tie as tie

@@ -2,7 +2,7 @@
 use Prim.Native.Nat.{_-_, _<_}
 use native.Mathlib.Omega.{arith}
 use borrow.Author.Needs.{needs}
-use Rattle.event.specs.Places.{linesAt}
+use Rattle.event_find.specs.Places.{linesAt}
 use Rattle.table.specs.Layout.{countsIn}
 use Rattle.matching.specs.Rows.{clausesOf}
 use Rattle.matching.proofs.Sound.{Accepted, head-room, clauses-room, clause-room, clause-in, clause-next}

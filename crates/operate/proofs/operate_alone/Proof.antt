@@ -2,7 +2,7 @@
 use mathlib.Core.Path.{_≡_, _∙_, sym, ap}
 use borrow.Author.Needs.{needs}
 use Rattle.text.proofs.Answers.{refused-then, got-then}
-use Rattle.utf8.specs.Read.{aloneOf}
+use Rattle.utf8_text.specs.Read.{aloneOf}
 use Rattle.operate.specs.Read.{readOf}
 use Rattle.operate.specs.Operate.{operateOf, operateAlone}
 use Rattle.operate.proofs.operate_alone.Statement.{statement}

@@ -6,7 +6,7 @@ use mathlib.Core.Path.{_≡_, _∙_, sym, ap}
 use lib.Seq.{slice}
 use borrow.Author.Needs.{needs}
 use Rattle.text.specs.Number.{digitsTo, plus, signedTo}
-use Rattle.text.specs.Read.{numberOf}
+use Rattle.text_number.specs.Read.{numberOf}
 use Rattle.sheet.proofs.Fields.{Cut, cut, cut-rest}
 use Rattle.run_input.specs.Lines.{wholeOf}
 use Rattle.run_input.proofs.Fields.{bad-id, bad-instant, bad-offset, bad-price, bar-is}

@@ -3,7 +3,7 @@ use mathlib.Core.Option.{some}
 use mathlib.Core.Path.{_≡_, _∙_, sym, ap}
 use lib.Seq.{slice}
 use Rattle.text.specs.Number.{digitsTo, plus}
-use Rattle.text.specs.Read.{numberOf}
+use Rattle.text_number.specs.Read.{numberOf}
 use Rattle.run_input.proofs.Numbers.{plain-fits, plain-is}
 use borrow.Author.Needs.{needs}
 use Rattle.run_input.proofs.read_plain.Statement.{statement}

@@ -4,7 +4,7 @@ use mathlib.Core.Option.{some}
 use mathlib.Core.Path.{_≡_, _∙_, sym, ap}
 use lib.Seq.{slice}
 use Rattle.text.specs.Number.{digitsTo, negated}
-use Rattle.text.specs.Read.{numberOf}
+use Rattle.text_number.specs.Read.{numberOf}
 use Rattle.run_input.proofs.Numbers.{plain-fits, minus-fits, minus-is, signed-none, signed-plain, signed-minus}
 use borrow.Author.Needs.{needs}
 use Rattle.run_input.proofs.read_signed.Statement.{statement}

@@ -1,7 +1,7 @@
 -- The number and its `|`. Assumes nothing.
 use native.Mathlib.Omega.{arith}
 use borrow.Author.Needs.{needs}
-use Rattle.text.proofs.Written.{length-decimal}
+use Rattle.text_write.proofs.Written.{length-decimal}
 use Rattle.run_output.proofs.Short.{field-put}
 use Rattle.run_output.proofs.decimal_field.Statement.{statement}
 use Rattle.run_output.proofs.decimal_field.Tie as tie

@@ -1,7 +1,7 @@
 -- The four pieces, one behind another. Assumes nothing.
 use native.Mathlib.Omega.{arith}
 use borrow.Author.Needs.{needs}
-use Rattle.text.proofs.Written.{length-decimal}
+use Rattle.text_write.proofs.Written.{length-decimal}
 use Rattle.sequence.proofs.Closings.{close-length, closing-put}
 use Rattle.sequence.proofs.put_closing.Statement.{statement}
 use Rattle.sequence.proofs.put_closing.Tie as tie

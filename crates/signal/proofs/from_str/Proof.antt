@@ -6,7 +6,7 @@ use Prim.Native.Nat.{ℕ, _+_}
 use native.Mathlib.Omega.{arith}
 use borrow.Author.Needs.{needs}
 use borrow.Author.Tests.{not-true, not-false}
-use Rattle.text.specs.Read.{numberOf}
+use Rattle.text_number.specs.Read.{numberOf}
 use Rattle.signal.specs.Signal.{score}
 use Rattle.signal.specs.Read.{Cuts, ThreeFrom, LastFrom}
 use Rattle.signal.proofs.Says.{few-first, few-second, many, bad-score, signal-is}

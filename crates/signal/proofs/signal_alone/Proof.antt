@@ -4,7 +4,7 @@ use mathlib.Core.List.{List}
 use Prim.Native.Nat.{ℕ}
 use borrow.Author.Needs.{needs}
 use Rattle.text.proofs.Answers.{refused-then, got-then}
-use Rattle.utf8.specs.Read.{aloneOf}
+use Rattle.utf8_text.specs.Read.{aloneOf}
 use Rattle.signal.specs.Signal.{signalOf, signalAlone}
 use Rattle.signal.specs.Read.{ReadAs}
 use Rattle.signal.proofs.signal_alone.Statement.{statement}

@@ -3,7 +3,7 @@ use Rattle.table_check.proofs.Parts.{headed-as, head-long, table-head, 
 use Rattle.table.specs.Read.{Headed}
 use Rattle.table.specs.Table.{headOk}
 use Rattle.table.specs.Layout.{partsIn}
-use Rattle.table_check.specs.Check.{textsOk}
+use Rattle.table_check_texts.specs.Check.{textsOk}
 use borrow.Author.Tests.{not-true, not-false}
 use mathlib.Core.Bool.{true}
 use mathlib.Core.Path.{_≡_, sym, _∙_}

@@ -15,6 +15,9 @@ abbrev μ-loop : tie.MeasureT-loop
 loop-holds : tie.Need-loop-holds Inv-loop μ-loop
 loop-holds c = summing-first (c .args .es .now) (c .args .n) (c .pre .0) (c .pre .1)
 
+cast-sum : tie.Need-cast-sum Inv-loop μ-loop
+cast-sum c = omega (arith, summing-low (c .before .before .loop .inv) (c .before .loop-test .taken))
+
 add-sum-2 : tie.Need-add-sum-2 Inv-loop μ-loop
 add-sum-2 c = omega (arith, summing-low (c .before .before .loop .inv) (c .before .loop-test .taken))
 
@@ -35,6 +38,7 @@ names-length-spec =
     (λ c. search needs)
     (λ c. search needs)
     (λ c. search needs)
+    cast-sum
     add-sum-2
     (λ c. search needs)
     (λ c. search needs)

@@ -1,6 +1,6 @@
 -- The rows of the events and of the clauses, one behind another. Assumes nothing.
 use borrow.Author.Needs.{needs}
-use Rattle.writer.proofs.Joined.{_then_}
+use Rattle.writer_rows.proofs.Joined.{_then_}
 use Rattle.writer.proofs.put_rows.Statement.{statement}
 use Rattle.writer.proofs.put_rows.Tie as tie
 

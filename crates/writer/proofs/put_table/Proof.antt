@@ -4,7 +4,7 @@ use native.Mathlib.Omega.{arith}
 use mathlib.Core.Path.{ap, _∙_}
 use lib.ListN.{replicate}
 use borrow.Author.Needs.{needs}
-use Rattle.writer.proofs.Joined.{_then_}
+use Rattle.writer_rows.proofs.Joined.{_then_}
 use Rattle.writer.proofs.Table.{table-put}
 use Rattle.writer.proofs.put_table.Statement.{statement}
 use Rattle.writer.proofs.put_table.Tie as tie
@@ -79,6 +79,8 @@ put-table-spec =
     tie.close
     (tie.spec
     (λ c κs. search needs)
+    (λ c. search needs)
+    (λ c. search needs)
     (λ c. search needs)
     (λ c. search needs)
     (λ c. search needs)

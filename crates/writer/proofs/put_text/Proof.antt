@@ -1,6 +1,6 @@
 -- A part of a text, with its length. Assumes nothing.
 use borrow.Author.Needs.{needs}
-use Rattle.writer.proofs.Joined.{text-put}
+use Rattle.writer_rows.proofs.Joined.{text-put}
 use Rattle.writer.proofs.put_text.Statement.{statement}
 use Rattle.writer.proofs.put_text.Tie as tie
 

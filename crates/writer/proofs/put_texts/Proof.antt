@@ -1,7 +1,7 @@
 -- The five texts, one behind another. Assumes nothing.
 use native.Mathlib.Omega.{arith}
 use borrow.Author.Needs.{needs}
-use Rattle.writer.proofs.Joined.{_then_}
+use Rattle.writer_rows.proofs.Joined.{_then_}
 use Rattle.writer.proofs.put_texts.Statement.{statement}
 use Rattle.writer.proofs.put_texts.Tie as tie
 

@@ -1,6 +1,6 @@
 -- `tables::asked::signals` is safe: the places that were read are those of lines. Assumes nothing.
 use mathlib.Core.Path.{subst}
-use Rattle.event.specs.Places.{ReadOk}
+use Rattle.event_signals.specs.Read.{ReadOk}
 use borrow.Author.Needs.{needs}
 use Rattle.tables.proofs.asked.signals.Statement.{statement}
 use Rattle.tables.proofs.asked.signals.Tie as tie

@@ -1,0 +1,2 @@
+-- Laws of the definitions.
+mod Laws

@@ -1,0 +1,2 @@
+-- The laws of one line more.
+mod Adding

@@ -1,0 +1,3 @@
+-- What reading a bar's signals answers.
+pub mod Read
+pub mod Steps

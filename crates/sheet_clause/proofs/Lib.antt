@@ -1,0 +1,2 @@
+-- The laws of a clause's line.
+pub mod ClauseLine

@@ -1,0 +1,2 @@
+-- The definitions of a clause's line.
+pub mod Line

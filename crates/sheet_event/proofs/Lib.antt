@@ -1,0 +1,2 @@
+-- The laws of an event's line.
+pub mod EventLine

@@ -1,0 +1,2 @@
+-- The definitions of an event's line.
+pub mod Line

@@ -1,0 +1,2 @@
+-- The laws of a first line.
+pub mod FirstLine

@@ -1,0 +1,117 @@
+-- Four numbers, one field after another; the last field is what is left of the line. Assumes nothing.
+use Prim.Native.Nat.{_+_}
+use native.Mathlib.Omega.{arith}
+use mathlib.Core.Path.{_≡_, _∙_, sym, ap}
+use mathlib.Core.Option.{some}
+use borrow.Author.Needs.{needs}
+use Rattle.text_number.specs.Read.{numberOf}
+use Rattle.sheet.specs.Sheet.{intervalLimit, timeoutLimit, stopLimit}
+use Rattle.sheet.proofs.Fields.{Cut, cut, cut-rest}
+use Rattle.sheet_first.proofs.FirstLine.{fieldOf, names-rest, bad-interval, bad-timeout, bad-stop, bad-t0, settings-are}
+use Rattle.sheet_first.proofs.settings.Statement.{statement}
+use Rattle.sheet_first.proofs.settings.Tie as tie
+
+cut-interval : (w : tie.After-find) → let a = w .before .before .args in Cut (a .s .now) (a .symbol + 1) (a .to) (w .find .result) 3
+cut-interval w = cut (names-rest (w .before .before .pre .0)) (w .find .ensures) (w .before .before .pre .1) (omega arith)
+
+cut-timeout : (w : tie.After-find2) → let v = w .before .before .before .before .before in let a = v .before .before .args in
+    Cut (a .s .now) (v .find .result + 1) (a .to) (w .find2 .result) 2
+cut-timeout w =
+    let f = cut-interval (w .before .before .before .before .before) in
+    cut (cut-rest f) (w .find2 .ensures) (f .left) (omega arith)
+
+cut-stop : (w : tie.After-find3) → let v = w .before .before .before .before .before in let a = v .before .before .before .before .before .before .before .args in
+    Cut (a .s .now) (v .find2 .result + 1) (a .to) (w .find3 .result) 1
+cut-stop w =
+    let f = cut-timeout (w .before .before .before .before .before) in
+    cut (cut-rest f) (w .find3 .ensures) (f .left) (omega arith)
+
+interval : (w : tie.After-find2) → let v = w .before .before .before .before .before in let a = v .before .before .args in
+    some (w .before .before .interval .given .0 .0) ≡ fieldOf (a .s .now) intervalLimit (a .symbol + 1) (v .find .result)
+interval w = sym (ap numberOf (w .before .before .interval .given .1)) ∙ w .before .before .before .before .unsigned .ensures
+
+timeout : (w : tie.After-find3) → let v = w .before .before .before .before .before in let u = v .before .before .before .before .before in
+    some (w .before .before .timeout .given .0 .0) ≡ fieldOf (u .before .before .args .s .now) timeoutLimit (u .find .result + 1) (v .find2 .result)
+timeout w = sym (ap numberOf (w .before .before .timeout .given .1)) ∙ w .before .before .before .before .unsigned2 .ensures
+
+stop : (w : tie.After-known-told3) → let u = w .before .before .before .before in let v = u .before .before .before .before .before in
+    some (w .before .stop .given .0 .0) ≡ fieldOf (v .before .before .before .before .before .before .before .args .s .now) stopLimit (v .find2 .result + 1) (u .find3 .result)
+stop w = sym (ap numberOf (w .before .stop .given .1)) ∙ w .before .before .before .unsigned3 .ensures
+
+returns : tie.Need-returns
+returns c =
+    let w = c .before .before .before in
+    bad-interval (w .before .before .pre .0) (cut-interval w) (sym (ap numberOf (c .enum-told .given .1)) ∙ c .before .before .unsigned .ensures)
+
+find-requires-2 : tie.Need-find-requires-2
+find-requires-2 c κs = cut-rest (cut-interval (c .before .before .before .before))
+
+returns-2 : tie.Need-returns-2
+returns-2 c =
+    let v = c .before .before .before in
+    let w = v .before .before .before .before .before in
+    bad-timeout (w .before .before .pre .0) (cut-interval w) (interval v) (cut-timeout v) (sym (ap numberOf (c .enum-told2 .given .1)) ∙ c .before .before .unsigned2 .ensures)
+
+find-requires-3 : tie.Need-find-requires-3
+find-requires-3 c κs = cut-rest (cut-timeout (c .before .before .before .before))
+
+returns-3 : tie.Need-returns-3
+returns-3 c =
+    let u = c .before .before .before in
+    let v = u .before .before .before .before .before in
+    let w = v .before .before .before .before .before in
+    bad-stop (w .before .before .pre .0) (cut-interval w) (interval v) (cut-timeout v) (timeout u) (cut-stop u)
+    (sym (ap numberOf (c .enum-told3 .given .1)) ∙ c .before .before .unsigned3 .ensures)
+
+unsigned-requires-4 : tie.Need-unsigned-requires-4
+unsigned-requires-4 c κs = cut-rest (cut-stop (c .before .before .before .before))
+
+returns-4 : tie.Need-returns-4
+returns-4 c =
+    let t = c .before .before .before in
+    let u = t .before .before .before .before in
+    let v = u .before .before .before .before .before in
+    let w = v .before .before .before .before .before in
+    bad-t0 (w .before .before .pre .0) (cut-interval w) (interval v) (cut-timeout v) (timeout u) (cut-stop u) (stop t)
+    (sym (ap numberOf (c .enum-told4 .given .1)) ∙ c .before .before .unsigned4 .ensures)
+
+returns-5 : tie.Need-returns-5
+returns-5 c =
+    let t = c .before .before .before .before in
+    let u = t .before .before .before .before in
+    let v = u .before .before .before .before .before in
+    let w = v .before .before .before .before .before in
+    settings-are (w .before .before .pre .0) (cut-interval w) (interval v) (cut-timeout v) (timeout u) (cut-stop u) (stop t)
+    (sym (ap numberOf (c .before .t0 .given .1)) ∙ c .before .before .before .unsigned4 .ensures)
+
+pub settings-spec : {M : Type 1} → statement M
+settings-spec =
+    tie.close
+    (tie.spec
+    (λ c. search needs)
+    (λ c κs. search needs)
+    (λ c. search needs)
+    (λ c κs. search needs)
+    (λ c. search needs)
+    (λ c. search needs)
+    returns
+    (λ c. search needs)
+    find-requires-2
+    (λ c. search needs)
+    (λ c κs. search needs)
+    (λ c. search needs)
+    (λ c. search needs)
+    returns-2
+    (λ c. search needs)
+    find-requires-3
+    (λ c. search needs)
+    (λ c κs. search needs)
+    (λ c. search needs)
+    (λ c. search needs)
+    returns-3
+    (λ c. search needs)
+    unsigned-requires-4
+    (λ c. search needs)
+    (λ c. search needs)
+    returns-4
+    returns-5)

@@ -1,0 +1,2 @@
+-- The definitions of a first line.
+pub mod First

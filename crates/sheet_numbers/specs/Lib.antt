@@ -1,0 +1,2 @@
+-- The definitions of a sheet's counts.
+pub mod Counted

@@ -1,0 +1,2 @@
+-- The definitions of the later lines of a sheet.
+pub mod Lines

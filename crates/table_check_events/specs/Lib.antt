@@ -1,0 +1,2 @@
+-- The definitions that the contracts of `table_check_events` cite.
+pub mod Check

@@ -1,0 +1,3 @@
+-- The laws of the check of texts.
+pub mod Texts
+pub mod Lent

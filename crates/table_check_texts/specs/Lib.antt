@@ -1,0 +1,2 @@
+-- The definitions that the contracts of `table_check_texts` cite.
+pub mod Check

@@ -1,0 +1,3 @@
+-- The laws of numbers that are read.
+pub mod Digits
+mod Hex

@@ -1,0 +1,2 @@
+-- What a number that was read means.
+pub mod Read

@@ -1,0 +1,2 @@
+-- The laws of numbers that are written.
+pub mod Written

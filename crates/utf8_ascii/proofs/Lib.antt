@@ -1,0 +1,2 @@
+-- The laws of a block of ASCII.
+mod Ascii

@@ -1,0 +1,2 @@
+-- The laws of common characters.
+mod Common

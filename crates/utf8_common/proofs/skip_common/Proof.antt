@@ -1,0 +1,41 @@
+-- `utf8_common::skip_common` meets its contract. The loop has passed i..j. Assumes nothing.
+use Prim.Native.Nat.{_-_}
+use lib.ListN.{length, drop}
+use borrow.Author.Needs.{needs}
+use Rattle.utf8.specs.Read.{Passed}
+use Rattle.utf8.specs.Utf8.{utf8}
+use Rattle.utf8.proofs.Laws.{passed-start, passed-on}
+use Rattle.utf8_common.proofs.skip_common.Statement.{statement}
+use Rattle.utf8_common.proofs.skip_common.Tie as tie
+
+abbrev Inv-loop : tie.InvT-loop
+Inv-loop s i n j₀ j = Passed s i (utf8 (drop i s)) j
+
+abbrev μ-loop : tie.MeasureT-loop
+μ-loop s i n j₀ j = length s - j
+
+loop-holds : tie.Need-loop-holds Inv-loop μ-loop
+loop-holds c = passed-start _ _ (c .before .pre)
+
+returns : tie.Need-returns Inv-loop μ-loop
+returns c = c .before .before .before .loop .inv
+
+loop-again : tie.Need-loop-again Inv-loop μ-loop
+loop-again c = passed-on (c .before .before .before .loop .inv) (c .before .common-block .ensures)
+
+returns-2 : tie.Need-returns-2 Inv-loop μ-loop
+returns-2 c = c .before .loop .inv
+
+pub skip-common-spec : {M : Type 1} → statement M
+skip-common-spec =
+    tie.close
+    (tie.spec
+    Inv-loop
+    μ-loop
+    loop-holds
+    (λ c. search needs)
+    (λ c κs. search needs)
+    returns
+    (λ c. search needs)
+    loop-again
+    returns-2)

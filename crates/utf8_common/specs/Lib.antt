@@ -1,0 +1,2 @@
+-- The definitions of common characters.
+pub mod Common

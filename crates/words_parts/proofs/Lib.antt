@@ -1,0 +1,4 @@
+-- The laws of a word's parts.
+pub mod Fit
+pub mod Tame
+pub mod Count

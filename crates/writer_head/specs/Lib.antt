@@ -1,0 +1,2 @@
+-- What writing a header asks.
+pub mod Head

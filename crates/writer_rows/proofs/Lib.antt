@@ -1,0 +1,3 @@
+-- The laws of writing rows.
+pub mod Joined
+pub mod Rows

@@ -1,0 +1,2 @@
+-- What writing rows asks and answers.
+pub mod Rows
