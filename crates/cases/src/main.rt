@@ -11,7 +11,7 @@ use text_number::decimal;
 ghost use mathlib.Core.Path.{_≡_};
 ghost use Prim.Native.Nat.{_≤_};
 ghost use lib.ListN.{length};
-ghost use Rattle.run_text.specs.Steps.{outputRoom};
+ghost use Rattle.run_feed.specs.Steps.{outputRoom};
 
 // Room for the stored set.
 const SET_ROOM: usize = 2_000_000;

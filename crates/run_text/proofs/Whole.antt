@@ -37,8 +37,9 @@ use Rattle.run_input.specs.Lines.{CutAt}
 use Rattle.run_output.specs.Shown.{pairRoom, holdRoom, ShortPut}
 use Rattle.run_rows.specs.Rows.{Booked, pairRows, pairLines, holdLines}
 use Rattle.run_rows.proofs.Asked.{pairs-are, holds-are}
-use Rattle.run_text.specs.Steps.{outputRoom, asked, starting, Running, AllFed, Begun}
-use Rattle.run_text.proofs.Fed.{fed-all, fed-none, booked}
+use Rattle.run_feed.specs.Steps.{outputRoom, asked, starting, Running, AllFed}
+use Rattle.run_feed.proofs.Fed.{fed-all, fed-none, booked}
+use Rattle.run_text.specs.Steps.{Begun}
 
 -- 0 is said only where something is got
 got-of : {X : Type 0} {a : Answer X} → Gives Any a → number a ≡ 0 → (x : X) × (a ≡ Got x)

@@ -3,9 +3,9 @@ use Prim.Native.Nat.{ℕ}
 use native.Mathlib.Nat.{le-refl}
 use mathlib.Core.List.{List}
 use mathlib.Core.Path.{_≡_, refl, subst}
-use Rattle.run_text.specs.Steps.{AllFed, FedAs}
-use Rattle.run_text.specs.declared.Ran.{Ran}
-use Rattle.run_text.specs.declared.Ran.the-variants.{Printed}
+use Rattle.run_feed.specs.Steps.{AllFed, FedAs}
+use Rattle.run_feed.specs.declared.Ran.{Ran}
+use Rattle.run_feed.specs.declared.Ran.the-variants.{Printed}
 use Rattle.run_text.proofs.Whole.{started, rows-ready, holds-ready, printed-all}
 use borrow.Author.Needs.{needs}
 use Rattle.run_text.proofs.run_bars.Statement.{statement}

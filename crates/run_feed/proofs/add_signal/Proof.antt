@@ -1,9 +1,9 @@
 -- The line goes behind the signals of the bar that waits. Assumes nothing.
 use mathlib.Core.Path.{refl, sym, subst}
-use Rattle.run_text.specs.Steps.{IsBar}
+use Rattle.run_feed.specs.Steps.{IsBar}
 use borrow.Author.Needs.{needs}
-use Rattle.run_text.proofs.add_signal.Statement.{statement}
-use Rattle.run_text.proofs.add_signal.Tie as tie
+use Rattle.run_feed.proofs.add_signal.Statement.{statement}
+use Rattle.run_feed.proofs.add_signal.Tie as tie
 
 returns : tie.Need-returns
 returns c = (record { waiting = sym (c .before .before .before .before .before .waiting .given .1); at = refl; put = c .before .before .put-part .ensures }, subst IsBar (sym (c .before .before .before .before .before .waiting .given .1)) tt)

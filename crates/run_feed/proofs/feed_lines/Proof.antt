@@ -4,9 +4,9 @@ use native.Mathlib.Omega.{arith}
 use mathlib.Core.Path.{refl, _∙_}
 use borrow.Author.Needs.{needs}
 use lib.ListN.{length}
-use Rattle.run_text.proofs.Lines.{waiting-ready, read-cut, all-fed, Looping, looping-next, refused-with}
-use Rattle.run_text.proofs.feed_lines.Statement.{statement}
-use Rattle.run_text.proofs.feed_lines.Tie as tie
+use Rattle.run_feed.proofs.Lines.{waiting-ready, read-cut, all-fed, Looping, looping-next, refused-with}
+use Rattle.run_feed.proofs.feed_lines.Statement.{statement}
+use Rattle.run_feed.proofs.feed_lines.Tie as tie
 
 abbrev Inv-loop : tie.InvT-loop
 Inv-loop table book₀ s from signals₀ out₀ n p₀ i₀ book signals out p i = Looping s table book₀ signals₀ out₀ book signals out p i

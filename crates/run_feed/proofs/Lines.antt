@@ -20,13 +20,13 @@ use Rattle.run_input.specs.declared.BarLine.{BarLine}
 use Rattle.run_input.specs.declared.InputLine.the-variants as InputLine
 use Rattle.run_output.specs.Shown.{feedRoom}
 use Rattle.run_rows.specs.Rows.{Booked}
-use Rattle.run_text.specs.Steps.{FedAll, waitingInput, WaitingOk, waitingRoom, FedWaiting, First, IsBar, asked, Running, SignalPut, SignalAdded, TakenAs, AllFed}
-use Rattle.run_text.specs.declared.Waiting.{Waiting}
-use Rattle.run_text.specs.declared.Waiting.the-variants.{Bar, Nothing}
-use Rattle.run_text.specs.declared.Progress.{Progress}
-use Rattle.run_text.specs.declared.Taken.{Taken}
-use Rattle.run_text.specs.declared.Taken.the-variants as Taken
-use Rattle.run_text.proofs.Fed.{fed-step, booked}
+use Rattle.run_feed.specs.Steps.{FedAll, waitingInput, WaitingOk, waitingRoom, FedWaiting, First, IsBar, asked, Running, SignalPut, SignalAdded, TakenAs, AllFed}
+use Rattle.run_feed.specs.declared.Waiting.{Waiting}
+use Rattle.run_feed.specs.declared.Waiting.the-variants.{Bar, Nothing}
+use Rattle.run_feed.specs.declared.Progress.{Progress}
+use Rattle.run_feed.specs.declared.Taken.{Taken}
+use Rattle.run_feed.specs.declared.Taken.the-variants as Taken
+use Rattle.run_feed.proofs.Fed.{fed-step, booked}
 
 -- ---- the bar that waits
 

@@ -24,7 +24,7 @@ use Rattle.history.proofs.Invariant.{BookOf}
 use Rattle.history.proofs.Answered.{Cleared}
 use Rattle.history.proofs.Booked.{Next, cleared, cleared-bars, fed-next}
 use Rattle.run_rows.specs.Rows.{Booked}
-use Rattle.run_text.specs.Steps.{fedLines, Held, FedAll, barLineOf, FedOne}
+use Rattle.run_feed.specs.Steps.{fedLines, Held, FedAll, barLineOf, FedOne}
 
 -- ---- the lines
 

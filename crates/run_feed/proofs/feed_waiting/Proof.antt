@@ -2,10 +2,10 @@
 use mathlib.Core.Path.{refl, sym, subst}
 use lib.ListN.{take}
 use lib.Seq.{length-take-le}
-use Rattle.run_text.specs.Steps.{FedWaiting}
+use Rattle.run_feed.specs.Steps.{FedWaiting}
 use borrow.Author.Needs.{needs}
-use Rattle.run_text.proofs.feed_waiting.Statement.{statement}
-use Rattle.run_text.proofs.feed_waiting.Tie as tie
+use Rattle.run_feed.proofs.feed_waiting.Statement.{statement}
+use Rattle.run_feed.proofs.feed_waiting.Tie as tie
 
 slice-aggregate-feed-one : tie.Need-slice-aggregate-feed-one
 slice-aggregate-feed-one c =

@@ -28,8 +28,8 @@ use Rattle.run_input.specs.declared.BarLine.{BarLine}
 use Rattle.run_rows.specs.Rows.{Booked}
 use Rattle.run_rows.proofs.Lent.{lent-put}
 use Rattle.run_output.specs.Shown.{feedRoom}
-use Rattle.run_text.specs.Steps.{FedOne}
-use Rattle.run_text.proofs.Fed.{booked-next, book-long}
+use Rattle.run_feed.specs.Steps.{FedOne}
+use Rattle.run_feed.proofs.Fed.{booked-next, book-long}
 
 -- the number of a feed's answer, whatever its bytes
 number-same : (a b : List ℕ) (r : Feed) → number (feedOf a r) ≡ number (feedOf b r)

@@ -1,9 +1,9 @@
 -- The feed, the header after it and the line that is printed. Assumes nothing.
 use native.Mathlib.Omega.{arith}
-use Rattle.run_text.proofs.One.{next-long, fed-printed}
+use Rattle.run_feed.proofs.One.{next-long, fed-printed}
 use borrow.Author.Needs.{needs}
-use Rattle.run_text.proofs.feed_one.Statement.{statement}
-use Rattle.run_text.proofs.feed_one.Tie as tie
+use Rattle.run_feed.proofs.feed_one.Statement.{statement}
+use Rattle.run_feed.proofs.feed_one.Tie as tie
 
 printed : tie.Need-returns
 printed c =

@@ -4,10 +4,10 @@ use mathlib.Core.Path.{_≡_, subst}
 use Prim.Native.Nat.{ℕ}
 use Rattle.run_input.specs.Lines.{LineAs}
 use Rattle.run_input.specs.declared.InputLine.{InputLine}
-use Rattle.run_text.proofs.Lines.{waiting-ready, signal-ready, took-bar, took-added, took-malformed, took-number}
+use Rattle.run_feed.proofs.Lines.{waiting-ready, signal-ready, took-bar, took-added, took-malformed, took-number}
 use borrow.Author.Needs.{needs}
-use Rattle.run_text.proofs.take_line.Statement.{statement}
-use Rattle.run_text.proofs.take_line.Tie as tie
+use Rattle.run_feed.proofs.take_line.Statement.{statement}
+use Rattle.run_feed.proofs.take_line.Tie as tie
 
 -- what was read, by the case that it is
 told : {l : List ℕ} {r q : InputLine} → r ≡ q → LineAs l r → LineAs l q

@@ -1,0 +1,2 @@
+-- The definitions that the contracts of `run_feed` cite.
+pub mod Steps
