@@ -86,12 +86,9 @@ fn crossing(shape: &Shape) -> Shape {
 
 /// What the library exports.
 fn exported() -> (BTreeMap<String, Shape>, BTreeMap<String, Shape>) {
-    let (calls_text, answers) = (
-        read("crates/position_book/src/lib.rt"),
-        read("crates/answer/src/lib.rt"),
-    );
-    let mut shapes = structs(&calls_text);
-    shapes.extend(structs(&answers));
+    let calls_text = read("crates/position_book/src/lib.rt");
+    let mut shapes = structs(&read("crates/answer/src/lib.rt"));
+    shapes.extend(structs(&read("crates/answer_alone/src/lib.rt")));
     let calls = calls(&calls_text, "pub extern \"C\" fn ", &['\n', '{'])
         .into_iter()
         .map(|(name, shape)| (name, crossing(&shape)))
