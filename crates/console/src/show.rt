@@ -2,6 +2,7 @@
 use double::Yield;
 use le::Real;
 use libc::STDOUT_FILENO;
+use text_number::Int;
 
 // Bytes as they are.
 pub fn text(s: &[u8]) {
@@ -51,6 +52,20 @@ pub fn signed(z: i64) {
 // The same of an i32.
 pub fn signed32(z: i32) {
     signed(z as i64);
+}
+
+// A number by its sign and magnitude: minus nothing is 0.
+pub fn int(i: Int) {
+    match i {
+        Int::Plus(m) => number(m),
+        Int::Minus(m) => {
+            if 0 < m {
+                text(b"-");
+            }
+            number(m);
+        }
+        Int::Not => text(b"none"),
+    }
 }
 
 // 1 or 0.

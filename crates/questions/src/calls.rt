@@ -1,10 +1,9 @@
-// The calls on a book: compile, fresh, feed, save, restore. Each shows its number, its values and a fingerprint of the bytes that it may change.
-use compile::compile;
+// The calls on a book: fresh, feed, save, restore. Each shows its number, its values and a fingerprint of the bytes that it may change.
 use console::ask;
 use console::ask::field;
-use console::raw::fingerprint;
 use console::show;
 use console::show::next;
+use console_text::raw::ended;
 use feed::Feed;
 use feed::feed_bar;
 use position::Decision;
@@ -14,19 +13,6 @@ use position::Report;
 use store::fresh;
 use store::restore;
 use store::save;
-
-// A number, and the fingerprint of bytes.
-pub fn ended(n: u32, b: &[u8]) {
-    show::number(n as u64);
-    next();
-    show::number(fingerprint(b));
-}
-
-// `C`: compiles the sheet s.
-pub fn compiled(s: &[u8], table: &mut [u8]) {
-    let r = compile(s, table);
-    ended(r.number(), table);
-}
 
 // `N`: makes the book fresh.
 pub fn made(book: &mut [u8]) {

@@ -12,13 +12,11 @@
 //   #              a comment
 //
 // `C` and `M` empty the text.
-mod asked;
-
 use console::ask;
 use console::ask::field;
-use console::build;
-use console::raw;
 use console::show;
+use console_text::build;
+use console_text::raw;
 use libc::STDIN_FILENO;
 use text::LF;
 use text::find;
@@ -31,13 +29,23 @@ fn asks(tag: u8) -> bool {
     }
 }
 
-// Runs a line that leaves the text as it is.
-fn inspect(tag: u8, s: &[u8], table: &mut [u8]) {
+// Whether a line of that letter empties the text.
+fn empties(tag: u8) -> bool {
     match tag {
-        b'F' => asked::changed(s, table),
+        b'C' | b'M' => true,
+        _ => false,
+    }
+}
+
+// Runs a line on the text and the table; one that adds to the text does nothing here.
+fn inspect(tag: u8, s: &[u8], text: &[u8], table: &mut [u8]) {
+    match tag {
+        b'C' => tables_asked::compiled(text, table),
+        b'M' => tables_asked::matched(text, table),
+        b'F' => tables_asked::changed(s, table),
         b'H' => raw::dump(table, ask::place(field(s, 1)), ask::place(field(s, 2))),
         b'P' => raw::change(table, ask::place(field(s, 1)), field(s, 2)),
-        b'T' => asked::accepted(table),
+        b'T' => tables_asked::accepted(table),
         _ => return,
     }
 }
@@ -48,28 +56,14 @@ fn run(s: &[u8], text: &mut [u8], used: usize, table: &mut [u8]) -> usize {
         return used;
     }
     let tag = s[0];
-    let rest = &s[1..];
     if asks(tag) {
         show::text(b" = ");
     }
-    match tag {
-        b'+' => build::line(rest, text, used),
-        b'.' => build::bytes(rest, text, used),
-        b'*' => build::lines(rest, text, used),
-        b'%' => build::copies(rest, text, used),
-        b'C' => {
-            asked::compiled(build::taken(text, used), table);
-            0
-        }
-        b'M' => {
-            asked::matched(build::taken(text, used), table);
-            0
-        }
-        _ => {
-            inspect(tag, s, table);
-            used
-        }
+    inspect(tag, s, build::taken(text, used), table);
+    if empties(tag) {
+        return 0;
     }
+    build::added(tag, &s[1..], text, used)
 }
 
 // Runs a line and writes it back.

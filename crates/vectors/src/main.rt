@@ -1,7 +1,5 @@
-// Vectors for the leaves. Each line of standard input asks something of one leaf, and is written back with the answer behind ` = `.
-// Lines that begin with `#` are written back as they are. docs/MAP.md lists the kinds of question.
-mod leaves;
-
+// Vectors for the leaves. Each line of standard input asks something of one leaf (`vectors_numbers`, `vectors_texts`), and is written back
+// with the answer behind ` = `. Lines that begin with `#` are written back as they are. docs/MAP.md lists the kinds of question.
 use console::show;
 use libc::STDIN_FILENO;
 use text::LF;
@@ -15,25 +13,25 @@ fn answer(s: &[u8]) {
     let tag = s[0];
     let rest = &s[2..];
     match tag {
-        b'B' => leaves::bytes(rest),
-        b'C' => leaves::operate_name(rest),
-        b'D' => leaves::decimal(rest),
-        b'E' => leaves::seconds(rest),
-        b'F' => leaves::finite(rest),
-        b'H' => leaves::hold_yield(rest),
-        b'I' => leaves::int(rest),
-        b'K' => leaves::stop(rest),
-        b'N' => leaves::parts(rest),
-        b'O' => leaves::operate(rest),
-        b'P' => leaves::pair_yield(rest),
-        b'R' => leaves::round(rest),
-        b'S' => leaves::signal(rest),
-        b'T' => leaves::time(rest),
-        b'U' => leaves::utf8(rest),
-        b'V' => leaves::value(rest),
-        b'W' => leaves::written(rest),
-        b'X' => leaves::operate_bytes(rest),
-        b'Y' => leaves::signal_bytes(rest),
+        b'B' => vectors_numbers::bytes(rest),
+        b'C' => vectors_texts::operate_name(rest),
+        b'D' => vectors_numbers::decimal(rest),
+        b'E' => vectors_numbers::seconds(rest),
+        b'F' => vectors_numbers::finite(rest),
+        b'H' => vectors_numbers::hold_yield(rest),
+        b'I' => vectors_numbers::int(rest),
+        b'K' => vectors_numbers::stop(rest),
+        b'N' => vectors_numbers::parts(rest),
+        b'O' => vectors_texts::operate(rest),
+        b'P' => vectors_numbers::pair_yield(rest),
+        b'R' => vectors_numbers::round(rest),
+        b'S' => vectors_texts::signal(rest),
+        b'T' => vectors_numbers::time(rest),
+        b'U' => vectors_texts::utf8(rest),
+        b'V' => vectors_texts::value(rest),
+        b'W' => vectors_numbers::written(rest),
+        b'X' => vectors_texts::operate_bytes(rest),
+        b'Y' => vectors_texts::signal_bytes(rest),
         _ => show::text(b"?"),
     }
 }

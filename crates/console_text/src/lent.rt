@@ -1,0 +1,34 @@
+// A table, a book or an image that is lent, by its letter: T, B, or I.
+use crate::raw;
+use console::ask;
+use console::ask::field;
+
+// The first byte of a field, or 0.
+fn letter(s: &[u8]) -> u8 {
+    if s.len() == 0 {
+        return 0;
+    }
+    s[0]
+}
+
+// `P|X|at|BYTES`: bytes put in their place.
+pub fn put(s: &[u8], table: &mut [u8], book: &mut [u8], image: &mut [u8]) {
+    let at = ask::place(field(s, 2));
+    let hex = field(s, 3);
+    match letter(field(s, 1)) {
+        b'T' => raw::change(table, at, hex),
+        b'B' => raw::change(book, at, hex),
+        _ => raw::change(image, at, hex),
+    }
+}
+
+// `H|X|from|to`: bytes shown.
+pub fn dump(s: &[u8], table: &[u8], book: &[u8], image: &[u8]) {
+    let from = ask::place(field(s, 2));
+    let to = ask::place(field(s, 3));
+    match letter(field(s, 1)) {
+        b'T' => raw::dump(table, from, to),
+        b'B' => raw::dump(book, from, to),
+        _ => raw::dump(image, from, to),
+    }
+}
