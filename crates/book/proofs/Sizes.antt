@@ -92,7 +92,7 @@ restore-size t b image x e =
     let size = got-from (sizedPair t b image) _ x e in
     let alone = got-from (sized t b) _ (size .0) (size .1) in
     let same = must-got 8 (eqb (length image) (length b)) _ (size .0) (alone .2) .0 in
-    let check = got-from (checked t (size .0) image) _ x (size .2) in
+    let check = got-from (checked t (size .0) _) _ x (size .2) in
     sym (ap (λ (y : List ℕ). length y) (got-same image x (check .2))) ∙ eqb-true (length image) (length b) same
 
 pub fresh-size : (b x : List ℕ) → freshDo b ≡ Got x → length x ≡ length b
