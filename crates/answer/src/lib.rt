@@ -9,7 +9,7 @@ use feed::Feed;
 use field::pos_sign;
 use hold_block::present;
 use holds::HoldRead;
-use pair_block::side_sign;
+use pair_put::side_sign;
 use pairs::PairRead;
 use position::Decision;
 use position::HoldRow;

@@ -1,11 +1,10 @@
-// Runs one line of the program `books`, whose file says what each letter asks.
+// Runs one line of the program `books`, whose file says what each letter asks, on the bytes that are lent.
 use console::show;
 use console_text::build;
-use console_text::lent;
-use questions::calls;
-use questions::checks;
-ghost use Prim.Native.Nat.{_<_};
-ghost use lib.ListN.{length};
+use console_text::lent::touched;
+use questions::called;
+use questions_checks::changed;
+use questions_rows::asked;
 
 // Whether a line of that letter asks something.
 fn asks(tag: u8) -> bool {
@@ -15,16 +14,8 @@ fn asks(tag: u8) -> bool {
     }
 }
 
-// Whether a line of that letter empties the text.
-fn empties(tag: u8) -> bool {
-    match tag {
-        b'B' | b'C' => true,
-        _ => false,
-    }
-}
-
-// Runs a line on the text and the bytes that are lent; one that adds to the text does nothing here.
-fn inspect(
+// Runs a line, and shows ` = ` and the answer where it asks something; one that adds to the text does nothing here.
+pub fn inspect(
     tag: u8,
     s: &[u8],
     text: &[u8],
@@ -33,42 +24,22 @@ fn inspect(
     image: &mut [u8],
     row: &mut [u8],
 ) {
-    match tag {
-        b'C' => tables_asked::compiled(text, table),
-        b'N' => calls::made(book),
-        b'B' => calls::fed(s, text, table, book),
-        b'S' => calls::saved(table, book, image),
-        b'R' => calls::restored(table, book, image),
-        b'V' => questions_rows::pair(s, table, book, row),
-        b'W' => questions_rows::hold(s, table, book),
-        b'E' => questions_rows::name(s, table, row),
-        b'F' => checks::changed(true, s, table, book, image),
-        b'G' => checks::changed(false, s, table, book, image),
-        b'P' => lent::put(s, table, book, image),
-        b'H' => lent::dump(s, table, book, image),
-        _ => return,
-    }
-}
-
-// Runs a line, and answers how many bytes of the text are taken then.
-pub fn run(
-    s: &[u8],
-    text: &mut [u8],
-    used: usize,
-    table: &mut [u8],
-    book: &mut [u8],
-    image: &mut [u8],
-    row: &mut [u8],
-) -> usize
-    requires { ⌜ 0 < length (now s) ⌝ }
-{
-    let tag = s[0];
     if asks(tag) {
         show::text(b" = ");
     }
-    inspect(tag, s, build::taken(text, used), table, book, image, row);
-    if empties(tag) {
-        return 0;
+    match tag {
+        b'C' => tables_asked::compiled(text, table),
+        b'E' | b'V' | b'W' => asked(tag, s, table, book, row),
+        b'F' | b'G' => changed(tag == b'F', s, table, book, image),
+        b'H' | b'P' => touched(tag, s, table, book, image),
+        _ => called(tag, s, text, table, book, image),
     }
-    build::added(tag, &s[1..], text, used)
+}
+
+// How many bytes of the text are taken after the line, whose letter is left out: `B` and `C` empty it.
+pub fn grown(tag: u8, s: &[u8], text: &mut [u8], used: usize) -> usize {
+    match tag {
+        b'B' | b'C' => 0,
+        _ => build::added(tag, s, text, used),
+    }
 }

@@ -5,7 +5,7 @@ use book::HEAD_LENGTH;
 use entry::hold_at;
 use entry::put_hold;
 use entry::put_record;
-use header::put_head;
+use header_write::put_head;
 use le::get_u32;
 use machine::Update;
 use machine::Wrote;

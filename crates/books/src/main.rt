@@ -16,87 +16,11 @@
 //   #              a comment
 //
 // A call's answer begins with its number and ends with a fingerprint of the bytes that it may change. `C` and `B` empty the text.
-use book_lines::run;
-use console::ask;
-use console::ask::field;
-use console::show;
+use books_line::Lent;
+use books_line::line;
 use libc::STDIN_FILENO;
 use text::LF;
 use text::find;
-ghost use Rattle.io.specs.Counts.{Counts};
-
-// How many bytes of the text are taken, and how many of each buffer are lent.
-struct Lent {
-    text: usize,
-    table: usize,
-    book: usize,
-    image: usize,
-    row: usize,
-}
-
-// `L|T|B|I|R`: how many bytes are lent.
-fn lend(s: &[u8], l: Lent) -> Lent {
-    Lent {
-        text: l.text,
-        table: ask::place(field(s, 1)),
-        book: ask::place(field(s, 2)),
-        image: ask::place(field(s, 3)),
-        row: ask::place(field(s, 4)),
-    }
-}
-
-// How many bytes of b are lent, where so many are asked.
-fn least(asked: usize, b: &[u8]) -> usize
-    ensures { λ r. ⌜ Counts r (now (b .entry)) ⌝ }
-{
-    let n = b.len();
-    if n < asked {
-        return n;
-    }
-    asked
-}
-
-// Runs a line and writes it back.
-fn line(
-    s: &[u8],
-    l: Lent,
-    text: &mut [u8],
-    table: &mut [u8],
-    book: &mut [u8],
-    image: &mut [u8],
-    row: &mut [u8],
-) -> Lent {
-    show::text(s);
-    if s.len() == 0 {
-        show::text(b"\n");
-        return l;
-    }
-    if s[0] == b'L' {
-        show::text(b"\n");
-        return lend(s, l);
-    }
-    let t = least(l.table, table);
-    let b = least(l.book, book);
-    let i = least(l.image, image);
-    let r = least(l.row, row);
-    let n = run(
-        s,
-        text,
-        l.text,
-        &mut table[..t],
-        &mut book[..b],
-        &mut image[..i],
-        &mut row[..r],
-    );
-    show::text(b"\n");
-    Lent {
-        text: n,
-        table: l.table,
-        book: l.book,
-        image: l.image,
-        row: l.row,
-    }
-}
 
 // Runs each line of s.
 fn lines(

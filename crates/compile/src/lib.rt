@@ -1,7 +1,7 @@
 // Compiling a position sheet into a table: the sheet is read, its keys and values are noted, and then, when nothing can be refused any
 // more, the table is written.
 use codes::note_keys;
-use codes::note_values;
+use codes_values::note_values;
 use sheet::SheetAt;
 use sheet::SheetRead;
 use sheet_read::read_sheet;

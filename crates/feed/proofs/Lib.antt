@@ -1,3 +1,2 @@
 -- The laws of a feed.
 pub mod Refusals
-pub mod Steps

@@ -26,7 +26,8 @@ use Rattle.book.specs.Calls.{sized, feedDo, feedBytes}
 use Rattle.admit.specs.Bars.{BarAs}
 use Rattle.admit.specs.declared.BarRead.{BarRead}
 use Rattle.feed.specs.Feed.{feedOf, FeedAs}
-use Rattle.feed.specs.Steps.{inTime, taken, barDo, signalsDo, Answers}
+use Rattle.feed_step.specs.Steps.{inTime, taken}
+use Rattle.feed.specs.Steps.{barDo, signalsDo, Answers}
 use Rattle.feed.specs.declared.Feed.{Feed}
 use Rattle.feed.specs.declared.Feed.the-variants.{Done, WrongLength, NotTable, NotBook, BadBar, Late, Full}
 

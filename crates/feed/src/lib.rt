@@ -1,41 +1,26 @@
 // A feed: the checks in the order of document 01, then the bar's step on the book.
 use admit::BarRead;
-use admit::choose;
 use admit::read_bar;
 use bar::Bar;
-use book_write::write_bar;
 use event_signals::SignalsRead;
 use event_signals::read_signals;
+use feed_step::is_in_time;
+use feed_step::take_bar;
 use header::Sized;
-use header::read_head;
 use header::size_of;
 use header_check::header_ok;
-use le::get_i64;
 use le::get_u32;
-use machine::Update;
-use machine::Wrote;
-use machine::step::update;
-use matching::Match;
-use matching::first_match;
-use position::Decision;
-use position::Description;
 use position::Report;
-use table::read_settings;
 use table_check::is_table;
 ghost use mathlib.Core.Path.{_≡_};
 ghost use mathlib.Core.List.{[]};
 ghost use mathlib.Core.Bool.{true};
-ghost use Prim.Native.Nat.{_<_, _≤_};
-ghost use lib.ListN.{length};
-ghost use Rattle.le.specs.Field.{u32 as Field·u32};
 ghost use Rattle.event_find.specs.Places.{linesAt, LinesOk};
 ghost use Rattle.table.specs.Table.{isTable};
-ghost use Rattle.matching.specs.First.{matchOf, Below};
-ghost use Rattle.machine.specs.Update.{wroteOf, goingOf};
 ghost use Rattle.book_write.specs.Write.{BookPassed, BarPassed};
 ghost use Rattle.text.specs.Answer.{number};
 ghost use Rattle.feed.specs.Feed.{feedOf, FeedAs};
-ghost use Rattle.feed.specs.Steps.{decidedBy, reportedBy, inTime, taken, barDo, signalsDo, Answers};
+ghost use Rattle.feed.specs.Steps.{barDo, signalsDo, Answers};
 
 // What a feed answers: what it says of the accepted bar, or why it is refused.
 pub enum Feed {
@@ -71,75 +56,6 @@ impl Feed {
             Feed::Full => 14,
         }
     }
-}
-
-// What decided a bar, by the event that matched and the record.
-fn decide(m: Match, w: Wrote) -> Decision
-    requires { ⌜ Below 4294967296 m ⌝ }
-    ensures { λ r. ⌜ r ≡ decidedBy (matchOf m) (wroteOf w) ⌝ }
-{
-    if let Wrote::One(r) = w {
-        let description = r.description;
-        return Decision::By(description);
-    }
-    match m {
-        Match::Event(i) => Decision::By(Description::Event(i as u32)),
-        Match::Nothing => Decision::Nothing,
-    }
-}
-
-// What is said of an accepted bar.
-fn report(m: Match, u: Update) -> Report
-    requires { ⌜ Below 4294967296 m ⌝ }
-    ensures { λ r. ⌜ r ≡ reportedBy (matchOf m) (goingOf u) ⌝ }
-{
-    let h = u.head;
-    let pos = h.pos;
-    let w = u.wrote;
-    let decision = decide(m, w);
-    Report {
-        pos: pos,
-        changed: h.changed,
-        decision: decision,
-    }
-}
-
-// An accepted bar: its match, its step, and the book after it.
-fn take_bar(
-    t: &[u8],
-    b: &mut [u8],
-    c: u32,
-    bar: Bar,
-    s: &[u8],
-    starts: &[usize],
-    mids: &[usize],
-    prints: &[u16],
-    n: usize,
-) -> Report
-    requires { ⌜ isTable (now t) ≡ true ⌝ }
-    requires { ⌜ BookPassed (now b) c ⌝ }
-    requires { ⌜ Field·u32 (now b) 0 < c ⌝ }
-    requires { ⌜ BarPassed bar ⌝ }
-    requires { ⌜ LinesOk (now s) (now starts) (now mids) (now prints) n ⌝ }
-    ensures { λ r. ⌜ record { after = now (b .exit); report = r } ≡ taken (now (t .entry)) c bar (linesAt (now (s .entry)) (now (starts .entry)) (now (mids .entry)) n) (now (b .entry)) ⌝ }
-{
-    let m = first_match(t, s, starts, mids, prints, n);
-    let u = update(read_settings(t), bar, choose(t, m), read_head(b));
-    write_bar(b, c, bar, u);
-    report(m, u)
-}
-
-// Whether a bar is later than end, or the book has no holds.
-fn is_in_time(b: &[u8], bar: Bar) -> bool
-    requires { ⌜ 96 ≤ length (now b) ⌝ }
-    ensures { λ r. ⌜ r ≡ inTime bar (now (b .entry)) ⌝ }
-{
-    if get_u32(b, 0) == 0 {
-        return true;
-    }
-    let time = bar.time;
-    let instant = time.instant;
-    get_i64(b, 32) < instant.0
 }
 
 // A bar with its signals read: 13, 14, or it is accepted.

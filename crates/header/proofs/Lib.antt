@@ -1,4 +1,3 @@
--- Laws of a book's size, and of a header and its parts.
+-- Laws of a book's size, and of the presence bytes of a header.
 pub mod Sizes
 pub mod Present
-pub mod Parts

@@ -7,7 +7,7 @@ use entry_check::is_priced;
 use entry_check::is_timed;
 use entry_check::zeros;
 use header::fresh_head;
-use header::put_head;
+use header_write::put_head;
 use le::get_i64;
 use le::get_u32;
 use operate::is_opening;

@@ -18,7 +18,7 @@ use Rattle.pairs.proofs.Texts.{pair-room}
 use Rattle.pairs.proofs.Numbers.{PairNumbers}
 use Rattle.blocks.specs.Blocks.{pairRowBytes}
 use Rattle.blocks.proofs.Single.{pair-long}
-use Rattle.pair_block.specs.Row.{tradeBytes, figureBytes, RowNumbers}
+use Rattle.pair_put.specs.Row.{tradeBytes, figureBytes, RowNumbers}
 
 -- the length of a row's texts
 abbrev pub texts : PairRow → ℕ

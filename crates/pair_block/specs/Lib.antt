@@ -1,2 +1,2 @@
 -- The definitions that the contracts of `pair_block` cite.
-pub mod Row
+pub mod Added

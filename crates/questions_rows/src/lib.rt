@@ -75,7 +75,7 @@ fn texts(row: &[u8], m: usize, n: usize, q: usize) {
 }
 
 // `V|i`: a pair row.
-pub fn pair(s: &[u8], table: &[u8], book: &[u8], row: &mut [u8]) {
+fn pair(s: &[u8], table: &[u8], book: &[u8], row: &mut [u8]) {
     let r = pair_row(table, book, ask::signed(field(s, 1)), row);
     if let PairRead::Row(p) = r {
         shown(p, row);
@@ -97,7 +97,7 @@ fn held(o: HoldRow) {
 }
 
 // `W|i`: a hold row.
-pub fn hold(s: &[u8], table: &[u8], book: &[u8]) {
+fn hold(s: &[u8], table: &[u8], book: &[u8]) {
     let r = hold_row(table, book, ask::signed(field(s, 1)));
     if let HoldRead::Row(o) = r {
         held(o);
@@ -106,11 +106,21 @@ pub fn hold(s: &[u8], table: &[u8], book: &[u8]) {
 }
 
 // `E|i`: an event's name.
-pub fn name(s: &[u8], table: &[u8], row: &mut [u8]) {
+fn name(s: &[u8], table: &[u8], row: &mut [u8]) {
     let r = event_name(table, ask::signed(field(s, 1)), row);
     if let NameRead::Length(n) = r {
         show::part(row, 0, n);
         next();
     }
     ended(r.number(), row);
+}
+
+// Runs a line of one of these letters; one of another does nothing.
+pub fn asked(tag: u8, s: &[u8], table: &[u8], book: &[u8], row: &mut [u8]) {
+    match tag {
+        b'V' => pair(s, table, book, row),
+        b'W' => hold(s, table, book),
+        b'E' => name(s, table, row),
+        _ => return,
+    }
 }

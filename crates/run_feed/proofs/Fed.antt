@@ -1,5 +1,5 @@
 -- The bars that were fed, one by one: their lines, and the book that they leave. Assumes nothing.
-use Prim.Native.Nat.{ℕ, _+_, _*_}
+use Prim.Native.Nat.{ℕ, _+_}
 use native.Mathlib.Omega.{arith}
 use mathlib.Core.List.{List, [], _∷_, _++_, append-assoc, append-nil}
 use mathlib.Core.Path.{_≡_, refl, sym, ap, subst, _∙_}
@@ -16,15 +16,15 @@ use Rattle.position.specs.Feed.{Input, feedState}
 use Rattle.position.specs.Cases.{stateAfter}
 use Rattle.position.specs.Run.{runBars, feedLine, nextState, feedAll}
 use Rattle.book.specs.Layout.{headOf}
-use Rattle.book.specs.Calls.{feedDo, feedBytes}
-use Rattle.book.proofs.Lengths.{length-encode}
+use Rattle.book.specs.Calls.{feedDo}
 use Rattle.book.proofs.Parts.{head-read}
 use Rattle.book.proofs.Passes.{head-fits}
 use Rattle.history.proofs.Invariant.{BookOf}
 use Rattle.history.proofs.Answered.{Cleared}
 use Rattle.history.proofs.Booked.{Next, cleared, cleared-bars, fed-next}
 use Rattle.run_rows.specs.Rows.{Booked}
-use Rattle.run_feed.specs.Steps.{fedLines, Held, FedAll, barLineOf, FedOne}
+use Rattle.run_one.specs.One.{Held, barLineOf, FedOne}
+use Rattle.run_feed.specs.Steps.{fedLines, FedAll}
 
 -- ---- the lines
 
@@ -62,32 +62,9 @@ lines-more s st (j ∷ is) i =
 head-is : {s : Sheet} {st : State} {b : List ℕ} (k : BookOf s st b) → headOf b ≡ st .head
 head-is {s} {st} k = ap headOf (k .state) ∙ head-read (k .bars) st (head-fits s (k .bars) st (k .sound) (k .room))
 
-pub book-long : {table b : List ℕ} → Booked table b → length b ≡ 57696
-book-long {table} {b} k =
-    let book = k .book in
-    let c = book .bars in
-    let room = book .room .holds in
-    let few = book .sound .few in
-    let bars = k .bars in
-    ap length (book .state) ∙ length-encode c (k .state) room (omega arith) ∙ ap (λ (n : ℕ). 96 + 64 * n) bars
-
 unfoldable pub booked : {table b out : List ℕ} {at : ℕ} {sheet : Sheet} {done : List Input} → FedAll table b out at sheet done → Booked table b
 booked {sheet = sheet} {done = done} f =
     record { sheet = sheet; state = stateAfter sheet freshState done; meant = f .meant; book = f .book .0; bars = f .book .1 }
-
--- after a feed the book is still one of the plain machine
-pub booked-next : {table b : List ℕ} → Booked table b → (i : Input) → T (fits binary64 (i .price)) → (next : List ℕ) → next ≡ feedBytes b (feedDo table b i) → Booked table next
-booked-next {table} {b} k i double next e =
-    let n = fed-next table (k .sheet) (k .meant) (k .state) b (k .book) i double in
-    let held : Held (k .sheet) (nextState (k .state) (feedState (k .sheet) (k .book .bars) i (k .state))) next =
-    subst (Held (k .sheet) (nextState (k .state) (feedState (k .sheet) (k .book .bars) i (k .state)))) (sym e) (n .book, n .bars ∙ k .bars) in
-    record {
-      sheet = k .sheet;
-      state = nextState (k .state) (feedState (k .sheet) (k .book .bars) i (k .state));
-      meant = k .meant;
-      book = held .0;
-      bars = held .1;
-    }
 
 -- ---- no bar, and one more
 

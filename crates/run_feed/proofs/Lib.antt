@@ -1,4 +1,3 @@
 -- The laws of `run_feed`.
 pub mod Fed
-pub mod One
 pub mod Lines

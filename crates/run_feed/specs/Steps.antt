@@ -7,21 +7,17 @@ use lib.Ieee.{binary64, fits}
 use lib.ListN.{length, take, replicate}
 use lib.Seq.{slice}
 use Rattle.text.specs.Answer.{Answer, Refused, Got, _>>=_, number}
-use Rattle.text.specs.Literal.{bytes}
-use Rattle.text.specs.Number.{decimalOf, integerOf}
 use Rattle.text.specs.Read.{Put}
 use Rattle.text.proofs.Lines.{linesFrom}
 use Rattle.sheet.specs.Sheet.{Sheet}
 use Rattle.table.specs.Table.{readTable}
-use Rattle.position.specs.State.{State, freshState, posSign}
-use Rattle.position.specs.Feed.{Input, Accepted, feedState}
+use Rattle.position.specs.State.{State, freshState}
+use Rattle.position.specs.Feed.{Input, feedState}
 use Rattle.position.specs.Cases.{stateAfter}
-use Rattle.position.specs.Run.{runBars, inputLimit, inputLine, Asked, readInput, line, flagText, feedLine, nextState}
-use Rattle.book.specs.Layout.{headOf}
-use Rattle.book.specs.Calls.{feedDo, feedBytes}
-use Rattle.history.proofs.Invariant.{BookOf}
+use Rattle.position.specs.Run.{runBars, inputLimit, inputLine, Asked, readInput, line, feedLine, nextState}
 use Rattle.run_input.specs.Lines.{inputOf}
-use Rattle.run_output.specs.Shown.{feedRoom, ShortPut}
+use Rattle.run_output.specs.Shown.{feedRoom}
+use Rattle.run_one.specs.One.{Held, FedOne}
 use Rattle.run_feed.specs.declared.Waiting.{Waiting}
 use Rattle.run_feed.specs.declared.Waiting.the-variants.{Bar, Nothing}
 use Rattle.run_feed.specs.declared.Progress.{Progress}
@@ -44,25 +40,11 @@ fedLines s st (i ∷ is) =
     let next = nextState st a in
     feedLine (number a) next ++ fedLines s next is
 
--- b is the book of a state that bars can reach, with room for 900 of them
-abbrev pub Held : Sheet → State → List ℕ → Type 0
-Held s st b = (k : BookOf s st b) × (k .bars ≡ runBars)
-
 -- all of `done` were fed to a fresh book, and their lines stand at the start of out, zeros behind them
 pub record FedAll (table b out : List ℕ) (at : ℕ) (sheet : Sheet) (done : List Input) : Type 0 where
   pub meant : readTable table ≡ Got sheet
   pub book : Held sheet (stateAfter sheet freshState done) b
   pub printed : Put (replicate (length out) 0) out 0 (fedLines sheet freshState done) at
-
--- ---- one bar
-
--- the line of a bar, by the answer of its feed and the book then
-abbrev pub barLineOf : Answer (Accepted (List ℕ)) → List ℕ → List ℕ
-barLineOf a b = line (bytes "F" ∷ decimalOf (number a) ∷ integerOf (posSign (headOf b .pos)) ∷ flagText (headOf b .changed) ∷ [])
-
-pub record FedOne (table b next : List ℕ) (i : Input) (out more : List ℕ) (at r : ℕ) : Type 0 where
-  pub book : next ≡ feedBytes b (feedDo table b i)
-  pub line : ShortPut feedRoom out more at (barLineOf (feedDo table b i) next) r
 
 -- ---- the bar that waits
 

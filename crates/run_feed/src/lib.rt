@@ -1,25 +1,18 @@
 // The run program's bars: each line is read, and each bar is fed with its signals and printed.
-use feed::feed_bar;
-use field::pos_sign;
-use header::read_head;
 use run_input::BarLine;
 use run_input::InputLine;
 use run_input::read_line;
-use run_output::FEED_ROOM;
-use run_output::put_feed;
+use run_one::feed_one;
 use text::LF;
 use text::find;
 use text::put_part;
 ghost use Prim.Native.Nat.{_+_, _<_, _≤_};
-ghost use lib.Dec.{T};
-ghost use lib.Ieee.{binary64, fits};
 ghost use lib.ListN.{length, take};
 ghost use Rattle.text.specs.Read.{FirstAt};
 ghost use Rattle.text.specs.Text.{LF};
-ghost use Rattle.run_input.specs.Lines.{inputOf};
 ghost use Rattle.run_output.specs.Shown.{feedRoom};
 ghost use Rattle.run_rows.specs.Rows.{Booked};
-ghost use Rattle.run_feed.specs.Steps.{WaitingOk, FedOne, FedWaiting, SignalAdded, starting, Running, TakenAs, FedAs};
+ghost use Rattle.run_feed.specs.Steps.{WaitingOk, FedWaiting, SignalAdded, starting, Running, TakenAs, FedAs};
 
 // The bar that waits for its signals, or none before the first bar.
 enum Waiting {
@@ -44,33 +37,6 @@ enum Taken {
 pub enum Ran {
     Printed(usize),
     Refused(u32),
-}
-
-// Feeds a bar with its signals, and prints its line.
-fn feed_one(
-    table: &[u8],
-    book: &mut [u8],
-    b: BarLine,
-    signals: &[u8],
-    out: &mut [u8],
-    at: usize,
-) -> usize
-    requires { ⌜ Booked (now table) (now book) ⌝ }
-    requires { ⌜ T (fits binary64 (b .price)) ⌝ }
-    requires { ⌜ at + feedRoom ≤ length (now out) ⌝ }
-    ensures { λ r. ⌜ FedOne (now (table .entry)) (now (book .entry)) (now (book .exit)) (inputOf b (now (signals .entry))) (now (out .entry)) (now (out .exit)) at r ⌝ }
-{
-    let r = feed_bar(table, book, b.id, b.instant, b.offset, b.price, signals);
-    let h = read_head(book);
-    let pos = h.pos;
-    let n = put_feed(
-        &mut out[at..at + FEED_ROOM],
-        0,
-        r.number(),
-        pos_sign(pos),
-        h.changed,
-    );
-    at + n
 }
 
 // Feeds the bar that waits, where there is one.

@@ -8,7 +8,7 @@ use lib.Seq.{length-take-le, drop-append-le, drop-drop}
 use Rattle.le.specs.Le.{patch}
 use Rattle.text.specs.Read.{Put}
 use Rattle.text.proofs.Put.{put-patch}
-use Rattle.run_output.specs.Shown.{ShortPut}
+use Rattle.run_fields.specs.Fields.{ShortPut}
 
 pub lent-room : (l : List ℕ) (at room : ℕ) → at + room ≤ length l → room ≤ length (take (at + room - at) (drop at l))
 lent-room l at room h =

@@ -11,7 +11,7 @@ use lib.Seq.{take-all}
 use Rattle.text.specs.Read.{Put}
 use Rattle.text.proofs.Put.{put-none, put-put}
 use Rattle.position.specs.Run.{runBars}
-use Rattle.run_output.specs.Shown.{ShortPut}
+use Rattle.run_fields.specs.Fields.{ShortPut}
 use Rattle.run_rows.specs.Rows.{RowAdded}
 use Rattle.run_rows.specs.declared.Added.{Added}
 use Rattle.run_rows.specs.declared.Added.the-variants.{Next, NoRow}

@@ -29,7 +29,8 @@ use Rattle.pairs.proofs.Texts.{pair-room}
 use Rattle.holds.specs.Read.{holdReadOf}
 use Rattle.holds.specs.declared.HoldRead.{HoldRead}
 use Rattle.holds.specs.declared.HoldRead.the-variants as HoldRead
-use Rattle.run_output.specs.Shown.{pairRoom, holdRoom, pairIn, ShortPut, YieldShown, PairShown, HoldShown}
+use Rattle.run_fields.specs.Fields.{ShortPut, YieldShown}
+use Rattle.run_output.specs.Shown.{pairRoom, holdRoom, pairIn, PairShown, HoldShown}
 use Rattle.run_output.proofs.Texts.{pair-back}
 use Rattle.run_rows.specs.Rows.{Booked, pairRows}
 use Rattle.run_rows.proofs.Asked.{pair-asked, hold-asked, pair-shown, hold-shown}

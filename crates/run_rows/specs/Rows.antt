@@ -13,7 +13,8 @@ use Rattle.position.specs.Rows.{Pair, pairsOf, holdRows}
 use Rattle.position.specs.Run.{runBars, pairLine, holdLine}
 use Rattle.book.specs.Layout.{recordsOf, holdsOf}
 use Rattle.history.proofs.Invariant.{BookOf}
-use Rattle.run_output.specs.Shown.{pairRoom, holdRoom, ShortPut}
+use Rattle.run_fields.specs.Fields.{ShortPut}
+use Rattle.run_output.specs.Shown.{pairRoom, holdRoom}
 use Rattle.run_rows.specs.declared.Added.{Added}
 use Rattle.run_rows.specs.declared.Added.the-variants.{Next, NoRow}
 

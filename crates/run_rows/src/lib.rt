@@ -11,7 +11,8 @@ use run_output::put_pair;
 ghost use Prim.Native.Nat.{_+_, _*_, _≤_};
 ghost use lib.ListN.{length};
 ghost use Rattle.position.specs.Run.{runBars};
-ghost use Rattle.run_output.specs.Shown.{pairRoom, holdRoom, ShortPut};
+ghost use Rattle.run_fields.specs.Fields.{ShortPut};
+ghost use Rattle.run_output.specs.Shown.{pairRoom, holdRoom};
 ghost use Rattle.run_rows.specs.Rows.{Booked, pairLines, holdLines, PairAdded, HoldAdded};
 
 // The place behind a row that was printed, or that there is none.

@@ -1,9 +1,9 @@
--- From the input's bytes to the printed bytes: what is refused, what is begun, and what the parts that were printed make. Assumes nothing.
-use Prim.Native.Nat.{ℕ, _+_, _*_, _≤_, _<_}
+-- From the input's bytes to its bars: what is refused, what is begun, and what a refusal prints. Assumes nothing.
+use Prim.Native.Nat.{ℕ, _+_, _≤_, _<_}
 use native.Mathlib.Omega.{arith}
-use mathlib.Core.List.{List, [], _∷_, append-assoc, flatMap}
+use mathlib.Core.List.{List, [], _∷_}
 use mathlib.Core.Logic.{_≢_}
-use mathlib.Core.Option.{none, some}
+use mathlib.Core.Option.{none}
 use mathlib.Core.Path.{_≡_, refl, sym, ap, subst, _∙_}
 use lib.ListN.{length, take, replicate}
 use borrow.Author.Tests.{le-leb, lt-leb, eq-eqb}
@@ -13,7 +13,6 @@ use Rattle.text.specs.Number.{decimalOf}
 use Rattle.text.specs.Read.{Put}
 use Rattle.text.specs.Text.{LF, split}
 use Rattle.text.proofs.Laws.{part-end}
-use Rattle.text.proofs.Put.{put-put}
 use Rattle.text.proofs.Lines.{linesFrom}
 use Rattle.text.proofs.Refusals.{Gives, refuses, gives, Any}
 use Rattle.sheet.specs.Sheet.{Sheet}
@@ -22,24 +21,11 @@ use Rattle.table.specs.Layout.{tableLength}
 use Rattle.table.specs.Compile.{compileDo, Compiled, Means}
 use Rattle.compile.specs.Outcome.{numberOf, CompiledAs}
 use Rattle.compile.specs.declared.Outcome.{Outcome}
-use Rattle.position.specs.State.{freshState}
-use Rattle.position.specs.Rows.{pairsOf, holdRows}
-use Rattle.position.specs.Cases.{stateAfter}
-use Rattle.position.specs.Run.{runBars, inputLimit, cut, inputLine, readInput, line, pairLine, holdLine, feedAll, runDo}
-use Rattle.position.specs.declared.Hold.{Hold}
-use Rattle.book.specs.Layout.{capacity, freshBook, holdsOf}
-use Rattle.book.specs.Calls.{freshDo}
-use Rattle.book.proofs.Lengths.{capacity-by}
-use Rattle.store.specs.Stored.{StoredAs}
-use Rattle.store.specs.declared.Stored.{Stored}
+use Rattle.position.specs.Run.{inputLimit, cut, inputLine, readInput, line, runDo}
 use Rattle.history.proofs.Answered.{compile-gives}
 use Rattle.run_input.specs.Lines.{CutAt}
-use Rattle.run_output.specs.Shown.{pairRoom, holdRoom, ShortPut}
-use Rattle.run_rows.specs.Rows.{Booked, pairRows, pairLines, holdLines}
-use Rattle.run_rows.proofs.Asked.{pairs-are, holds-are}
-use Rattle.run_feed.specs.Steps.{outputRoom, asked, starting, Running, AllFed}
-use Rattle.run_feed.proofs.Fed.{fed-all, fed-none, booked}
-use Rattle.run_text.specs.Steps.{Begun}
+use Rattle.run_feed.specs.Steps.{outputRoom, asked}
+use Rattle.run_bars.specs.Steps.{Begun}
 
 -- 0 is said only where something is got
 got-of : {X : Type 0} {a : Answer X} → Gives Any a → number a ≡ 0 → (x : X) × (a ≡ Got x)
@@ -97,30 +83,6 @@ module _ (s : List ℕ) (short : length s ≤ inputLimit) where
           let got = was-compiled h in
           record { sheet = got .0; meant = got .1 .meant; read = got .2; within = c .room; short = short; clear = clear; space = space }
 
--- ---- the fresh book
-
--- zeros of a book's length are made a book of 900 bars, and the bars can be read
-pub started : {s table out : List ℕ} {from : ℕ} → Begun s table out from → (zeros book signals : List ℕ) (r : Stored) → length zeros ≡ 57696
-    → StoredAs (freshDo zeros) zeros book r → inputLimit ≤ length signals → Running s table book signals out starting from
-unfolding freshDo
-started {out = out} k zeros book signals r long stored room =
-    let bars : capacity zeros ≡ some runBars = capacity-by zeros runBars long (omega arith) (omega arith) in
-    let is : book ≡ freshBook runBars = stored .bytes ∙ rw bars refl in
-    record {
-      sheet = k .sheet;
-      done = [];
-      fed = fed-none _ zeros book out (k .sheet) (k .meant) (runBars, bars, is) refl (k .clear);
-      waits = tt;
-      first = refl;
-      read = k .read;
-      within = k .within;
-      short = k .short;
-      few = omega arith;
-      room = room;
-      lines = omega arith;
-      space = k .space;
-    }
-
 -- ---- what is printed
 
 pub printed-refusal : (s : List ℕ) (n : ℕ) → readInput s ≡ Refused n → runDo s ≡ line (bytes "E" ∷ decimalOf n ∷ [])
@@ -130,32 +92,3 @@ printed-refusal s n e = rw e refl
 -- what is written over zeros as long as the buffer
 pub over-zeros : (n : ℕ) {x more t : List ℕ} {r : ℕ} → x ≡ replicate n 0 → Put x more 0 t r → (s : List ℕ) → runDo s ≡ t → (m : ℕ) → n ≡ m → Put (replicate m 0) more 0 (runDo s) r
 over-zeros n e put s is m size = rw (is, ← size, ← e) put
-
--- there is room for all rows
-pub rows-ready : {s table b out : List ℕ} {at : ℕ} → AllFed s table b out at → Booked table b × (at + (runBars + 1) * pairRoom ≤ length out)
-rows-ready f =
-    let few = f .few in
-    let space = f .space in
-    (booked (f .fed), omega arith)
-
-pub holds-ready : {s table b out more : List ℕ} {at r : ℕ} → AllFed s table b out at → ShortPut (runBars * pairRoom) out more at (pairLines table b) r
-    → Booked table b × (r + (runBars + 1) * holdRoom ≤ length more)
-holds-ready f ps =
-    let few = f .few in
-    let space = f .space in
-    let short = ps .short in
-    let kept = ps .put .kept in
-    (booked (f .fed), omega arith)
-
--- the bars' lines, the pairs and the holds
-pub printed-all : {s table b out more last : List ℕ} {at r q n m : ℕ} → AllFed s table b out at → ShortPut n out more at (pairLines table b) r
-    → ShortPut m more last r (holdLines b) q → Put (replicate (length out) 0) last 0 (runDo s) q
-unfolding runDo feedAll pairLines holdLines booked
-printed-all {s} {table} {b} {out} f ps hs =
-    let sheet = f .asks .sheet in
-    let inputs = f .asks .inputs in
-    let st = stateAfter sheet freshState inputs in
-    let k = booked (f .fed) in
-    let pairs : flatMap pairLine (pairRows table b) ≡ flatMap pairLine (pairsOf sheet (st .records)) = ap (flatMap pairLine) (pairs-are k) in
-    let holds : flatMap holdLine (holdRows (holdsOf b)) ≡ flatMap holdLine (holdRows (st .holds)) = ap (λ (os : List Hold). flatMap holdLine (holdRows os)) (holds-are k) in
-    rw (f .read, fed-all sheet freshState inputs, ← pairs, ← holds, ← append-assoc) (put-put (put-put (f .fed .printed) (ps .put)) (hs .put))

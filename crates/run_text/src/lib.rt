@@ -1,15 +1,11 @@
 // The run program's work: from the bytes of its input to the bytes that it prints.
-use book::ENTRY_LENGTH;
-use book::HEAD_LENGTH;
 use compile::compile;
+use run_bars::INPUT_LIMIT;
+use run_bars::run_bars;
 use run_feed::Ran;
-use run_feed::feed_lines;
 use run_input::Dash;
 use run_input::find_dash;
 use run_output::put_refusal;
-use run_rows::put_holds;
-use run_rows::put_pairs;
-use store::fresh;
 use table::TABLE_LENGTH;
 use text::clear;
 ghost use mathlib.Core.Path.{_≡_};
@@ -18,15 +14,10 @@ ghost use lib.ListN.{length, replicate};
 ghost use Rattle.text.specs.Read.{Put};
 ghost use Rattle.position.specs.Run.{runDo};
 ghost use Rattle.run_feed.specs.Steps.{outputRoom};
-ghost use Rattle.run_text.specs.Steps.{Begun, RanAs};
+ghost use Rattle.run_bars.specs.Steps.{RanAs};
 
 // The most bytes of an input, and one more, so that a longer one is told.
-pub const INPUT_LIMIT: usize = 65_536;
-
 pub const INPUT_ROOM: usize = INPUT_LIMIT + 1;
-
-// The bytes of a book of 900 bars.
-const BOOK_LENGTH: usize = HEAD_LENGTH + 2 * ENTRY_LENGTH * 900;
 
 // The bytes of room for every output.
 pub const OUTPUT_ROOM: usize = 2_500_000;
@@ -36,23 +27,6 @@ pub fn paper_out() -> [u8; OUTPUT_ROOM]
     ensures { λ r. ⌜ outputRoom ≡ length r ⌝ }
 {
     [0u8; OUTPUT_ROOM]
-}
-
-// Feeds a fresh book with the bars of s from `from` on, and prints what is said of each, then the book's rows.
-fn run_bars(table: &[u8], s: &[u8], from: usize, out: &mut [u8]) -> Ran
-    requires { ⌜ Begun (now s) (now table) (now out) from ⌝ }
-    ensures { λ r. ⌜ RanAs (now (s .entry)) (now (out .entry)) (now (out .exit)) r ⌝ }
-{
-    let mut book = [0u8; BOOK_LENGTH];
-    let mut signals = [0u8; INPUT_LIMIT];
-    fresh(&mut book);
-    match feed_lines(table, &mut book, s, from, &mut signals, out) {
-        Ran::Printed(at) => {
-            let end = put_pairs(table, &book, out, at);
-            Ran::Printed(put_holds(table, &book, out, end))
-        }
-        Ran::Refused(k) => Ran::Refused(k),
-    }
 }
 
 // Reads the input, compiles its sheet, and runs its bars.

@@ -8,7 +8,7 @@ use Rattle.compile.proofs.write_values.Statement.{statement}
 use Rattle.compile.proofs.write_values.Tie as tie
 use Rattle.compile.proofs.write_values.Reads as reads
 use Rattle.compile.proofs.write_values.Lts as lts
-use Rattle.codes.proofs.note_values.Reads as note-values-reads
+use Rattle.codes_values.proofs.note_values.Reads as note-values-reads
 use Rattle.writer.proofs.put_table.Reads as put-table-reads
 
 -- src/lib.rt:54:43

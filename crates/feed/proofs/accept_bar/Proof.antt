@@ -7,7 +7,7 @@ use borrow.Author.Needs.{needs}
 use borrow.Author.Tests.{not-true, not-false}
 use Rattle.le.specs.Field.{u32}
 use Rattle.book_write.proofs.Written.{counts}
-use Rattle.feed.specs.Steps.{inTime}
+use Rattle.feed_step.specs.Steps.{inTime}
 use Rattle.feed.proofs.Refusals.{bar-late, bar-full, bar-done}
 use Rattle.feed.proofs.accept_bar.Statement.{statement}
 use Rattle.feed.proofs.accept_bar.Tie as tie

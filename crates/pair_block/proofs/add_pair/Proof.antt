@@ -7,7 +7,7 @@ use Rattle.table.specs.Layout.{partsIn}
 use Rattle.table.specs.Table.{sheetOf}
 use Rattle.pairs.specs.Found.{pairFrom}
 use Rattle.pairs.proofs.Numbers.{pair-numbers, record-priced}
-use Rattle.pair_block.specs.Row.{RowNumbers}
+use Rattle.pair_put.specs.Row.{RowNumbers}
 use Rattle.pair_block.proofs.Made.{Made, made, made-full, made-put, made-numbers}
 use Rattle.pair_block.proofs.add_pair.Statement.{statement}
 use Rattle.pair_block.proofs.add_pair.Tie as tie

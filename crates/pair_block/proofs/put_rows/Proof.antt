@@ -10,7 +10,7 @@ use Rattle.pairs.specs.Found.{pairFrom, foundOf}
 use Rattle.pairs.specs.declared.FoundPair.{FoundPair}
 use Rattle.pairs.specs.declared.FoundPair.the-variants.{At}
 use Rattle.blocks.specs.Blocks.{pairRowBytes}
-use Rattle.pair_block.specs.Row.{AddedAs}
+use Rattle.pair_block.specs.Added.{AddedAs}
 use Rattle.pair_block.specs.declared.Added.{Added}
 use Rattle.pair_block.proofs.Walking.{left, left-less, Walking, walking-none, walking-next, walking-full, walking-last}
 use Rattle.pair_block.proofs.put_rows.Statement.{statement}

@@ -4,7 +4,7 @@ use native.Mathlib.Omega.{arith}
 use mathlib.Core.Path.{refl}
 use borrow.Author.Needs.{needs}
 use Rattle.text.specs.Literal.{bytes, encoded}
-use Rattle.run_output.proofs.Short.{short-wider, short-field, part-as, short-more, short-one}
+use Rattle.run_fields.proofs.Short.{short-wider, short-field, part-as, short-more, short-one}
 use Rattle.run_output.proofs.pair_names.Statement.{statement}
 use Rattle.run_output.proofs.pair_names.Tie as tie
 

@@ -3,7 +3,7 @@ use mathlib.Core.Path.{_∙_}
 use mir.Syntax.{w64}
 use mir.Facts.{toZ-ofZ}
 use borrow.Author.Needs.{needs}
-use Rattle.run_output.proofs.Short.{integer-as, short-more, short-one}
+use Rattle.run_fields.proofs.Short.{integer-as, short-more, short-one}
 use Rattle.run_output.proofs.pair_numbers.Statement.{statement}
 use Rattle.run_output.proofs.pair_numbers.Tie as tie
 

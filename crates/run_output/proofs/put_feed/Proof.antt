@@ -1,9 +1,9 @@
 -- The tag and three fields. Assumes nothing.
 use borrow.Author.Needs.{needs}
 use Rattle.text.specs.Literal.{bytes, encoded}
-use Rattle.run_output.proofs.Lines.{put-last, put-field}
-use Rattle.run_output.proofs.Short.{integer-as}
-use Rattle.run_output.proofs.Signed.{widened}
+use Rattle.run_fields.proofs.Lines.{put-last, put-field}
+use Rattle.run_fields.proofs.Short.{integer-as}
+use Rattle.run_fields.proofs.Signed.{widened}
 use Rattle.run_output.proofs.put_feed.Statement.{statement}
 use Rattle.run_output.proofs.put_feed.Tie as tie
 

@@ -5,9 +5,9 @@ use mir.Facts.{toZ-ofZ}
 use borrow.Author.Needs.{needs}
 use Rattle.text.specs.Literal.{bytes, encoded}
 use Rattle.position.specs.Run.{holdLine}
-use Rattle.run_output.proofs.Lines.{put-field}
-use Rattle.run_output.proofs.Short.{integer-as}
-use Rattle.run_output.proofs.Signed.{widened}
+use Rattle.run_fields.proofs.Lines.{put-field}
+use Rattle.run_fields.proofs.Short.{integer-as}
+use Rattle.run_fields.proofs.Signed.{widened}
 use Rattle.run_output.proofs.put_hold.Statement.{statement}
 use Rattle.run_output.proofs.put_hold.Tie as tie
 

@@ -3,8 +3,8 @@ use Prim.Native.Nat.{_+_}
 use mathlib.Core.Path.{refl}
 use borrow.Author.Needs.{needs}
 use Rattle.position.specs.Run.{pairLine}
-use Rattle.run_output.proofs.Lines.{put-field, put-fields}
-use Rattle.run_output.proofs.Short.{part-as}
+use Rattle.run_fields.proofs.Lines.{put-field, put-fields}
+use Rattle.run_fields.proofs.Short.{part-as}
 use Rattle.run_output.proofs.put_pair.Statement.{statement}
 use Rattle.run_output.proofs.put_pair.Tie as tie
 

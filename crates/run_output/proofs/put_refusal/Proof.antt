@@ -3,7 +3,7 @@ use native.Mathlib.Omega.{arith}
 use borrow.Author.Needs.{needs}
 use Rattle.text.specs.Literal.{bytes, encoded}
 use Rattle.text_write.proofs.Written.{length-decimal}
-use Rattle.run_output.proofs.Lines.{put-last, put-field}
+use Rattle.run_fields.proofs.Lines.{put-last, put-field}
 use Rattle.run_output.proofs.put_refusal.Statement.{statement}
 use Rattle.run_output.proofs.put_refusal.Tie as tie
 

@@ -2,7 +2,7 @@
 use native.Mathlib.Omega.{arith}
 use mathlib.Core.Path.{sym, ap, subst, _∙_}
 use lib.ListN.{replicate}
-use Rattle.run_text.specs.Steps.{RanAs}
+use Rattle.run_bars.specs.Steps.{RanAs}
 use Rattle.run_text.proofs.Whole.{over-zeros, printed-refusal}
 use borrow.Author.Needs.{needs}
 use Rattle.run_text.proofs.run.Statement.{statement}

@@ -1,0 +1,2 @@
+-- The laws of a bar's step.
+pub mod Steps

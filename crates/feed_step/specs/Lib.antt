@@ -1,0 +1,2 @@
+-- The definitions that the contracts of a bar's step cite.
+pub mod Steps

@@ -1,0 +1,2 @@
+-- Laws of a header and its parts.
+pub mod Parts

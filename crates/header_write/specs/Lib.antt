@@ -1,0 +1,2 @@
+-- The definitions that the contracts of `header_write` cite.
+pub mod Bytes

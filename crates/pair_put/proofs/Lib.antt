@@ -1,0 +1,2 @@
+-- The laws of a pair row's bytes.
+pub mod Row

@@ -1,0 +1,2 @@
+-- The definitions that the contracts of `pair_put` cite.
+pub mod Row

@@ -1,0 +1,2 @@
+-- The laws of `run_bars`.
+pub mod Printed

@@ -1,0 +1,3 @@
+-- The laws of one bar.
+pub mod Next
+pub mod One

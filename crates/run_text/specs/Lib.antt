@@ -1,2 +1,0 @@
--- The definitions that the contracts of `run_text` cite.
-pub mod Steps
