@@ -18,11 +18,12 @@
 // A call's answer begins with its number and ends with a fingerprint of the bytes that it may change. `C` and `B` empty the text.
 use books_line::Lent;
 use books_line::line;
+use console::show;
 use libc::STDIN_FILENO;
 use text::LF;
 use text::find;
 
-// Runs each line of s.
+// Runs each line of s, and writes it back.
 fn lines(
     s: &[u8],
     text: &mut [u8],
@@ -41,9 +42,12 @@ fn lines(
     };
     let mut at = 0;
     while at < n {
-        let end = find(s, at, n, LF);
-        l = line(&s[at..end], l, text, table, book, image, row);
+        let from = at;
+        let end = find(s, from, n, LF);
         at = end + 1;
+        show::text(&s[from..end]);
+        l = line(&s[from..end], l, text, table, book, image, row);
+        show::text(b"\n");
     }
 }
 

@@ -1,11 +1,9 @@
-// Runs one line of the program `books` on what is lent of its buffers, and writes it back.
+// Runs one line of the program `books` on what is lent of its buffers.
 use book_lines::grown;
 use book_lines::inspect;
 use console::ask;
 use console::ask::field;
-use console::show;
 use console_text::build;
-ghost use Rattle.io.specs.Counts.{Counts};
 
 // How many bytes of the text are taken, and how many of each buffer are lent.
 pub struct Lent {
@@ -27,18 +25,15 @@ fn lend(s: &[u8], l: Lent) -> Lent {
     }
 }
 
-// How many bytes of b are lent, where so many are asked.
-fn least(asked: usize, b: &[u8]) -> usize
-    ensures { λ r. ⌜ Counts r (now (b .entry)) ⌝ }
-{
-    let n = b.len();
-    if n < asked {
-        return n;
+// The bytes of b that are lent, where so many are asked.
+fn cut(b: &mut [u8], asked: usize) -> &mut [u8] {
+    if b.len() < asked {
+        return b;
     }
-    asked
+    &mut b[0..asked]
 }
 
-// Runs a line and writes it back.
+// Runs a line.
 pub fn line(
     s: &[u8],
     l: Lent,
@@ -48,31 +43,23 @@ pub fn line(
     image: &mut [u8],
     row: &mut [u8],
 ) -> Lent {
-    show::text(s);
     if s.len() == 0 {
-        show::text(b"\n");
         return l;
     }
     let tag = s[0];
     if tag == b'L' {
-        show::text(b"\n");
         return lend(s, l);
     }
     let used = l.text;
-    let t = least(l.table, table);
-    let b = least(l.book, book);
-    let i = least(l.image, image);
-    let r = least(l.row, row);
     inspect(
         tag,
         s,
         build::taken(text, used),
-        &mut table[..t],
-        &mut book[..b],
-        &mut image[..i],
-        &mut row[..r],
+        cut(table, l.table),
+        cut(book, l.book),
+        cut(image, l.image),
+        cut(row, l.row),
     );
-    show::text(b"\n");
     Lent {
         text: grown(tag, &s[1..], text, used),
         table: l.table,

@@ -7,11 +7,11 @@ use Rattle.books.proofs.lines.Statement.{statement}
 use Rattle.books.proofs.lines.Tie as tie
 
 abbrev Inv-loop : tie.InvT-loop
-Inv-loop s text₀ table₀ book₀ image₀ row₀ n l₀ at₀ text table book image row l at =
+Inv-loop s text₀ table₀ book₀ image₀ row₀ n l₀ at₀ newline text table book image row l at =
     (length text ≡ length text₀) × (length table ≡ length table₀) × (length book ≡ length book₀) × (length image ≡ length image₀) × (length row ≡ length row₀)
 
 abbrev μ-loop : tie.MeasureT-loop
-μ-loop s text₀ table₀ book₀ image₀ row₀ n l₀ at₀ text table book image row l at = n - at
+μ-loop s text₀ table₀ book₀ image₀ row₀ n l₀ at₀ newline text table book image row l at = n - at
 
 pub lines-spec : {M : Type 1} → statement M
 lines-spec =
@@ -24,8 +24,14 @@ lines-spec =
     (λ c. search needs)
     (λ c. search needs)
     (λ c. search needs)
+    (λ c. search needs)
     (λ c κs. search needs)
     (λ c. search needs)
+    (λ c. search needs)
+    (λ c. search needs)
+    (λ c κs. search needs)
+    (λ c. search needs)
+    (λ c κs. search needs)
     (λ c. search needs)
     (λ c. search needs)
     (λ c. search needs)
