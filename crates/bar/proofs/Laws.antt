@@ -5,7 +5,7 @@ use native.Mathlib.Omega.{arith}
 use lib.IntN.{ℤ, pos, _-ℤ_}
 use lib.Signed.{quotZ}
 use Rattle.bar.specs.Time.{dayOf, secondsBetween}
-use Rattle.bar.proofs.Diff.{of-pos, sub, same, D-pos}
+use Rattle.le.proofs.Diff.{of-pos, sub, same, D-pos}
 
 pub day-pos : (n : ℕ) → dayOf (pos n) ≡ pos (n / 86400000000)
 unfolding dayOf

@@ -1,5 +1,4 @@
 -- The laws that belong to no one function.
-pub mod Diff
 pub mod Steps
 pub mod Laws
 pub mod Ranges

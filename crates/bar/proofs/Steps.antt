@@ -12,7 +12,7 @@ use mir.Val.{SFits}
 use mir.Facts.{toZ-ofZ, sfits-widen}
 use Rattle.le.proofs.Signs.{back, step, sign, not-below, minus-one}
 use Rattle.bar.specs.Time.{localTime, floorDiv, secondsBetween}
-use Rattle.bar.proofs.Diff.{D, up, down, parts, add, sub, mul, bound, bounded}
+use Rattle.le.proofs.Diff.{D, up, down, parts, add, sub, mul, bound, bounded}
 
 fit : (z : ℤ) → mag z < 2 ^ 63 → SFits w64 z
 fit z h = record { sfits = h }

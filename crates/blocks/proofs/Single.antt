@@ -4,7 +4,7 @@ use Prim.Native.Nat.{ℕ, zero, suc, _+_, _-_, _≤_}
 use native.Mathlib.Omega.{arith}
 use mathlib.Core.Bool.{Bool, true, false, cond}
 use mathlib.Core.List.{List, [], _∷_, map}
-use mathlib.Core.Option.{Option, none, some}
+use mathlib.Core.Option.{some}
 use mathlib.Core.Path.{_≡_, _∙_, refl, sym, ap}
 use borrow.Author.Tests.{le-leb, leb-true}
 use lib.Dec.{leb}
@@ -12,8 +12,8 @@ use lib.IntN.{ℤ, pos, negsuc, _+ℤ_}
 use lib.ListN.{length, drop, getElem?, length-append}
 use Rattle.le.specs.Le.{leBytes}
 use Rattle.le.proofs.Laws.{length-leBytes}
-use Rattle.text.specs.Answer.{Answer, Got, _>>=_, given}
-use Rattle.text.proofs.Answers.{got-from, must-got, got-same}
+use Rattle.text.specs.Answer.{Got, given}
+use Rattle.text.proofs.Answers.{got-from, must-got, got-same, given-got}
 use Rattle.sheet.specs.Sheet.{Sheet}
 use Rattle.position.specs.Rows.{Pair, pairsOf, holdRows}
 use Rattle.position.specs.declared.HoldRow.{HoldRow}
@@ -67,10 +67,6 @@ pub record Answered (limit : ℕ) (rows : ℕ → Sheet → List (List ℕ)) (t 
   pub there : rowAt (rows bars sheet) i ≡ some first
   pub is : block ≡ fitting (length out) (rowsFrom (rows bars sheet) i)
 
-given-some : {X Y : Type 0} (n : ℕ) (o : Option X) (k : X → Answer Y) (y : Y) → (given n o >>= k) ≡ Got y → (x : X) × (o ≡ some x) × (k x ≡ Got y)
-given-some n none k y e = absurd (let z : _≡_ {A = ℕ} 0 1 = cc in omega arith)
-given-some n (some x) k y e = (x, refl, e)
-
 answered : (limit : ℕ) (rows : ℕ → Sheet → List (List ℕ)) (t b : List ℕ) (i : ℤ) (out : List ℕ) (block : List (List ℕ)) → blockDo limit rows t b i out ≡ Got block
     → Answered limit rows t b i out block
 unfolding blockDo
@@ -78,7 +74,8 @@ answered limit rows t b i out block e =
     let size = got-from (sized t b) _ block e in
     let room = must-got 8 (leb limit (length out)) _ block (size .2) in
     let check = got-from (checked t (size .0) b) _ block (room .1) in
-    let there = given-some 15 (rowAt (rows (size .0) (check .0)) i) _ block (check .2) in
+    let row = rowAt (rows (size .0) (check .0)) i in
+    let there = got-from (given 15 row) _ block (check .2) in
     record {
       bars = size .0;
       sheet = check .0;
@@ -86,7 +83,7 @@ answered limit rows t b i out block e =
       size = size .1;
       room = room .0;
       check = check .1;
-      there = there .1;
+      there = given-got 15 row (there .0) (there .1);
       is = sym (got-same _ _ (there .2));
     }
 

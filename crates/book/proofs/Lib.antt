@@ -14,6 +14,7 @@ pub mod Header
 pub mod Passes
 pub mod Ready
 pub mod Stored
+pub mod Fed
 pub mod Sizes
 pub mod Opened
 mod Examples

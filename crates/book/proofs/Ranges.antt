@@ -46,7 +46,7 @@ bar-in b h = record { id = omega (arith, h .id); time = time-in (b .time) (h .ti
 
 -- ---- a hold
 
-yield-in : (y : Yield) → YieldOk y → YieldIn y
+pub yield-in : (y : Yield) → YieldOk y → YieldIn y
 yield-in Absent h = tt
 yield-in (Bp x) h = h .1
 

@@ -16,7 +16,7 @@ use Rattle.double.specs.declared.Yield.{Yield}
 use Rattle.bar.specs.Time.{secondsBetween}
 use Rattle.bar.specs.Bar.{localOf}
 use Rattle.bar.specs.declared.LocalTime.{LocalTime}
-use Rattle.bar.proofs.Diff.{of-pos, sub, same, bound}
+use Rattle.le.proofs.Diff.{of-pos, sub, same, bound}
 use Rattle.position.specs.Rows.{sideOf}
 use Rattle.position.specs.declared.Record.{Record}
 use Rattle.pairs.specs.Row.{rowOf}

@@ -4,7 +4,7 @@ use native.Mathlib.Omega.{arith}
 use mathlib.Core.Bool.{Bool, true, false, cond, _&&_, _||_, and-eq-true-iff, false≢true}
 use mathlib.Core.List.{List, [], _∷_, _++_, append-nil}
 use mathlib.Core.Logic.{_⊎_, inl, inr}
-use mathlib.Core.Path.{_≡_, refl, sym, ap, ap₂, subst}
+use mathlib.Core.Path.{_≡_, refl, sym, ap, ap₂, _∙_, subst}
 use mathlib.Mathlib.Data.List.Defs.{Forall}
 use mathlib.Mathlib.Data.List.Basic.{forall-cons, forall-append, Forall·imp}
 use lib.Dec.{T, leb, ltb, eqb, eqb·suc-zero}
@@ -45,25 +45,33 @@ id-most : (id : ℤ) → idOk id ≡ true → natAbs id ≤ lastId
 id-most (pos n) e = leb-true n lastId (and-eq-true-iff (leb 0 n) (leb n lastId) .0 e .1)
 id-most (negsuc n) e = absurd (false≢true e)
 
-bar-ok : (id instant offset : ℤ) (p : Float) (b : Bar) → barOf id instant offset p ≡ Got b → T (fits binary64 p) → BarOk b
+-- the bar that was read passed, and is this one
+pub bar-made : (id instant offset : ℤ) (p : Float) (b : Bar) → barOf id instant offset p ≡ Got b
+    → ((idOk id && instantOk instant && offsetOk offset && finite p) ≡ true) × (_≡_ {A = Bar} (record { id = natAbs id; time = record { instant = record { 0 = instant }; offset = offset }; price = p }) b)
 unfolding barOf
-bar-ok id instant offset p b e double =
+bar-made id instant offset p b e =
     let made : Bar = record { id = natAbs id; time = record { instant = record { 0 = instant }; offset = offset }; price = p } in
     let m = must-got 11 (idOk id && instantOk instant && offsetOk offset && finite p) (λ _. Got made) b e in
-    let price = and-eq-true-iff (idOk id && instantOk instant && offsetOk offset) (finite p) .0 (m .0) in
-    let offsets = and-eq-true-iff (idOk id && instantOk instant) (offsetOk offset) .0 (price .0) in
-    let instants = and-eq-true-iff (idOk id) (instantOk instant) .0 (offsets .0) in
-    subst BarOk (got-same made b (m .1))
-    (record { id = id-most id (instants .0); time = ap₂ _&&_ (instants .1) (offsets .1); price = price .1; double = double })
+    (m .0, got-same made b (m .1))
 
-pub fed-ok : (i : Input) (f : Fed) → fedOf i ≡ Got f → T (fits binary64 (i .price)) → BarOk (f .bar)
+pub fed-bar : (i : Input) (f : Fed) → fedOf i ≡ Got f → barOf (i .id) (i .instant) (i .offset) (i .price) ≡ Got (f .bar)
 unfolding fedOf
-fed-ok i f e double =
+fed-bar i f e =
     let more : Bar → List Line → Answer Fed = λ b ls. Got (record { bar = b; signals = ls }) in
     let b = got-from (barOf (i .id) (i .instant) (i .offset) (i .price)) (λ b. readSignals (i .signals) >>= more b) f e in
     let ls = got-from (readSignals (i .signals)) (more (b .0)) f (b .2) in
-    subst BarOk (ap (λ (x : Fed). x .bar) (got-same (record { bar = b .0; signals = ls .0 }) f (ls .2)))
-    (bar-ok (i .id) (i .instant) (i .offset) (i .price) (b .0) (b .1) double)
+    b .1 ∙ ap (λ (x : Fed). Got (x .bar)) (got-same (record { bar = b .0; signals = ls .0 }) f (ls .2))
+
+bar-ok : (id instant offset : ℤ) (p : Float) (b : Bar) → barOf id instant offset p ≡ Got b → T (fits binary64 p) → BarOk b
+bar-ok id instant offset p b e double =
+    let m = bar-made id instant offset p b e in
+    let price = and-eq-true-iff (idOk id && instantOk instant && offsetOk offset) (finite p) .0 (m .0) in
+    let offsets = and-eq-true-iff (idOk id && instantOk instant) (offsetOk offset) .0 (price .0) in
+    let instants = and-eq-true-iff (idOk id) (instantOk instant) .0 (offsets .0) in
+    subst BarOk (m .1) (record { id = id-most id (instants .0); time = ap₂ _&&_ (instants .1) (offsets .1); price = price .1; double = double })
+
+pub fed-ok : (i : Input) (f : Fed) → fedOf i ≡ Got f → T (fits binary64 (i .price)) → BarOk (f .bar)
+fed-ok i f e double = bar-ok (i .id) (i .instant) (i .offset) (i .price) (f .bar) (fed-bar i f e) double
 
 pub admitted-got : (c holds : ℕ) (end : Time) (i : Input) (f : Fed) → admitted c holds end i ≡ Got f
     → (fedOf i ≡ Got f) × ((eqb holds 0 || ltZ (end .instant .0) (f .bar .time .instant .0)) ≡ true) × (holds < c)
@@ -137,7 +145,7 @@ prior s b st w t = go (w .ends)
 
 -- ---- holds
 
-yield-ok : (own next : Float) → finite next ≡ true → YieldOk (holdYield own next)
+pub yield-ok : (own next : Float) → finite next ≡ true → YieldOk (holdYield own next)
 unfolding holdYield
 yield-ok own next e = go (lt (whole 0) own) (hold-number own next (passes (finite next) e))
   where

@@ -1,8 +1,9 @@
 -- Laws of answers: the first refusal counts. Assumes nothing.
 use mathlib.Core.Bool.{Bool, true, false, false≢true}
+use mathlib.Core.Option.{Option, none, some}
 use mathlib.Core.Path.{_≡_, refl, ap}
 use Prim.Native.Nat.{ℕ}
-use Rattle.text.specs.Answer.{Answer, Refused, Got, _>>=_, must}
+use Rattle.text.specs.Answer.{Answer, Refused, Got, _>>=_, must, given}
 
 pub refused-then : {X Y : Type 0} {n : ℕ} {a : Answer X} (k : X → Answer Y) → Refused n ≡ a → Refused n ≡ (a >>= k)
 refused-then k e = ap (λ a. a >>= k) e
@@ -22,3 +23,7 @@ must-got n false k y e = absurd (false≢true (cc))
 
 pub got-same : {X : Type 0} (x y : X) → Got x ≡ Got y → x ≡ y
 got-same x y e = cc
+
+pub given-got : {X : Type 0} (n : ℕ) (o : Option X) (x : X) → given n o ≡ Got x → o ≡ some x
+given-got n none x e = absurd (false≢true (cc))
+given-got n (some y) x e = ap some (got-same y x e)

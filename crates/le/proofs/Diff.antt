@@ -5,7 +5,7 @@ use native.Mathlib.Nat.{mul-sub, mul-comm, mul-le-mul-right, le-of-lt}
 use native.Mathlib.Omega.{arith}
 use mathlib.Core.Path.{_≡_, refl, sym, ap, ap₂, _∙_}
 use mathlib.Core.Bool.{Bool, true, false}
-use lib.IntN.{ℤ, pos, negsuc, negℤ, subℕ, _+ℤ_, _-ℤ_, _*ℤ_}
+use lib.IntN.{ℤ, pos, negsuc, negℤ, natAbs, subℕ, _+ℤ_, _-ℤ_, _*ℤ_}
 use lib.Dec.{ltb}
 use lib.Signed.{mag}
 use borrow.Author.Tests.{ltb-true, ltb-false, lt-ltb, le-ltb}
@@ -36,6 +36,10 @@ of-pos n = rw (le-ltb n 0 (omega arith)) (ap pos (omega arith))
 of-negsuc : (n : ℕ) → negsuc n ≡ D 0 (suc n)
 of-negsuc n = rw (lt-ltb 0 (suc n) (omega arith)) (ap negsuc (omega arith))
 
+pub of-neg : (n : ℕ) → negℤ (pos n) ≡ D 0 n
+of-neg zero = refl
+of-neg (suc n) = of-negsuc n
+
 -- the two parts of an integer
 abbrev pub up : ℤ → ℕ
 up (pos n) = n
@@ -54,10 +58,6 @@ neg a b =
     way a b (negℤ (D a b) ≡ D b a)
     (λ h. rw (le-ltb a b h) (of-neg (a - b) ∙ same 0 (a - b) b a (omega arith)))
     (λ h. rw (lt-ltb a b h) (of-pos (suc (b - suc a)) ∙ same (suc (b - suc a)) 0 b a (omega arith)))
-  where
-    of-neg : (k : ℕ) → negℤ (pos k) ≡ D 0 k
-    of-neg zero = refl
-    of-neg (suc k) = of-negsuc k
 
 pub add : (a b c d : ℕ) → D a b +ℤ D c d ≡ D (a + c) (b + d)
 add a b c d =
@@ -83,6 +83,13 @@ mul a b k =
 
     turned : (a b : ℕ) → a < b → suc (b - suc a) ≡ b - a
     turned a b h = omega arith
+
+-- t times the distance of a and b
+pub within : (t a b r : ℕ) → t * a ≤ t * b + r → t * b ≤ t * a + r → t * natAbs (D a b) ≤ r
+within t a b r p q =
+    way a b (t * natAbs (D a b) ≤ r)
+    (λ h. rw (le-ltb a b h, mul-sub t a b) (omega arith))
+    (λ h. let e : suc (b - suc a) ≡ b - a = omega arith in rw (lt-ltb a b h, e, mul-sub t b a) (omega arith))
 
 pub bound : (a b h : ℕ) → a < b + h → b ≤ a + h → mag (D a b) < h
 bound a b h p q = way a b (mag (D a b) < h) (λ k. rw (le-ltb a b k) (omega arith)) (λ k. rw (lt-ltb a b k) (omega arith))
