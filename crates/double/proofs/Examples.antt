@@ -2,11 +2,13 @@
 use Prim.Native.Nat.{ℕ}
 use mathlib.Core.Path.{_≡_, refl}
 use mathlib.Core.Bool.{true, false}
-use lib.IntN.{pos}
-use lib.Ieee.{inf, binary64, ofBits, toBits, neg}
+use lib.IntN.{pos, negsuc}
+use lib.Dec.{le→leb, lit≤}
+use lib.Ieee.{Float, inf, fin, binary64, ofBits, toBits, neg}
 use Rattle.double.specs.declared.Side.the-variants.{Long, Short}
 use Rattle.double.specs.declared.Yield.the-variants.{Absent, Bp}
 use Rattle.double.specs.Double.{whole, roundAway, holdYield, pairYield, stopHit, daysOf}
+use Rattle.double.specs.Distance.{Moved, Within}
 use Rattle.double.proofs.Opened.{opened}
 
 -- rounding, from bits to bits
@@ -65,3 +67,37 @@ short-stops = (refl, refl)
 some-days : daysOf (pos 129_600) ≡ ofBits binary64 0x3ff8_0000_0000_0000
 unfolding opened
 some-days = refl
+
+-- ---- how far a hold's yield lies from the exact one
+
+-- from 100 to 125 and back, from 1 to 2 and back it is exact; and the other sign is not near
+exact-yields : Within 1000 (whole 100) (whole 125) (Bp (whole 2500))
+    × Within 1000 (whole 125) (whole 100) (Bp (neg (whole 2000)))
+    × Within 1000 (whole 1) (whole 2) (Bp (whole 10000))
+    × Within 1000 (whole 2) (whole 1) (Bp (neg (whole 5000)))
+unfolding opened Within
+exact-yields = (lit≤ tt, lit≤ tt, lit≤ tt, lit≤ tt)
+
+other-sign : Within 0 (whole 125) (whole 100) (Bp (whole 2000)) → ⊥
+unfolding opened Within
+other-sign h = le→leb _ _ h
+
+-- the smallest double and twice it, the largest and half of it: `Moved`
+abbrev smallest : Float
+smallest = fin false 1 (negsuc 1073)
+
+abbrev largest : Float
+largest = fin false 9007199254740991 (pos 971)
+
+moved-far : Moved smallest (fin false 1 (negsuc 1072)) × Moved largest (fin false 9007199254740991 (pos 970))
+moved-far = (record { from = tt; to = tt; atLeastHalf = lit≤ tt; atMostTwice = lit≤ tt }, record { from = tt; to = tt; atLeastHalf = lit≤ tt; atMostTwice = lit≤ tt })
+
+-- 38 is the most that holds: the yield from 1.7998211893163374 to 3.524503590475548 is not within 1/2^39
+not-39 : ((old new : Float) → Moved old new → Within 39 old new (holdYield old new)) → ⊥
+unfolding opened Within
+not-39 h = le→leb _ _ (h (fin false 2026418509384645 (negsuc 49)) (fin false 7936476528365827 (negsuc 50)) (record { from = tt; to = tt; atLeastHalf = lit≤ tt; atMostTwice = lit≤ tt }))
+
+-- past twice the old price 38 can fail: from 1.454197894474599 to 5.032591042538609
+not-past-twice : Within 38 (fin false 1637281273919691 (negsuc 49)) (fin false 1416548446492811 (negsuc 47)) (holdYield (fin false 1637281273919691 (negsuc 49)) (fin false 1416548446492811 (negsuc 47))) → ⊥
+unfolding opened Within
+not-past-twice h = le→leb _ _ h

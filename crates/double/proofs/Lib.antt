@@ -6,5 +6,8 @@ pub mod Branches
 pub mod Signs
 pub mod Numbers
 pub mod OwnPrice
+pub mod Rounding
+pub mod Apart
+pub mod Distance
 pub mod Examples
 pub mod Opened
