@@ -70,6 +70,11 @@ unfolding holdOf holdBytes part leBytes again
 hold-back o h =
     λ i. record { time = time-is (o .time) (h .time) i; pos = pos-is (o .pos) i; price = double-back (o .price) (h .price) i; n1b = yield-is (o .n1b) (h .n1b) i }
 
+-- its yield alone
+pub yield-back : (o : Hold) → YieldIn (o .n1b) → holdOf (holdBytes o) .n1b ≡ o .n1b
+unfolding holdOf holdBytes part leBytes
+yield-back o h = yield-is (o .n1b) h
+
 -- ---- a record
 
 description-is : (d : Description) → DescriptionIn d → descriptionAt (descriptionCode d) (leNat (put32 (descriptionEvent d))) ≡ d

@@ -16,5 +16,6 @@ pub mod Ready
 pub mod Stored
 pub mod Fed
 pub mod Sizes
+pub mod Distance
 pub mod Opened
 mod Examples

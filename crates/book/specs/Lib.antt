@@ -2,3 +2,4 @@
 pub mod Layout
 pub mod Check
 pub mod Calls
+pub mod Distance
