@@ -53,6 +53,11 @@ def div(a, b):
     return a / b
 
 
+def hold_yield(old, new):
+    """in basis points; none where the old price is not above 0"""
+    return (div(new, old) - 1.0) * 10000.0 if old > 0.0 else None
+
+
 def rnd(x):
     """to a whole number, ties away from zero, sign kept, infinities stay"""
     if not finite(x) or x == 0.0:
@@ -377,9 +382,9 @@ def step(sh, st, bar, d):
             st.pos = FLAT
             rec(close, why)
     if st.holds:
-        p = of_bits(st.holds[-1].price)
-        if p > 0.0:
-            st.holds[-1].yld = bits((div(price, p) - 1.0) * 10000.0)
+        y = hold_yield(of_bits(st.holds[-1].price), price)
+        if y is not None:
+            st.holds[-1].yld = bits(y)
     st.holds.append(Hold(now, st.pos, bar.price))
     return i
 

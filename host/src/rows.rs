@@ -41,7 +41,8 @@ pub struct Hold {
     pub local: i64,
     pub pos: Pos,
     pub price: f64,
-    /// The yield to the next bar in basis points; none where there is none yet, or the price is not above zero.
+    /// The yield to the next bar in basis points; none where there is none yet, or the price is not above zero. Where both prices are
+    /// positive and the next one is at least half and at most twice this one, it is within 1/2^38 of the exact yield.
     pub bp: Option<f64>,
 }
 
