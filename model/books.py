@@ -1,5 +1,5 @@
 #!/usr/bin/env python3
-"""Answers the script of `crates/books` by the plain model of document 01: usage `python3 books.py < stdin > stdout` in that folder
+"""Answers the script of `crates/test_books` by the plain model of document 01: usage `python3 books.py < stdin > stdout` in that folder
 (its src/main.rt says what each line asks)."""
 import os
 import sys

@@ -53,7 +53,7 @@ def seeded(count):
 
 def main():
     far = []
-    for source in held("crates/cases/stdout"), held("examples/season.out"), seeded(20_000):
+    for source in held("crates/test_cases/stdout"), held("examples/season.out"), seeded(20_000):
         far.append([distance(*hold) if hold[2] is not None else Fraction(2) for hold in source if asked(*hold[:2])])
     witness = distance(*WITNESS, model.hold_yield(*WITNESS))
     most = max(map(max, far))

@@ -1,7 +1,7 @@
 #!/usr/bin/env python3
 """A plain model of the compiled table, written from document 01 and docs/TABLE.md: a sheet's table, which bytes are a table, the sheet that they mean.
 
-Run as a program it answers the script of `crates/tables`: usage `python3 tables.py < stdin > stdout` in that folder (its src/main.rt says
+Run as a program it answers the script of `crates/test_tables`: usage `python3 tables.py < stdin > stdout` in that folder (its src/main.rt says
 what each line asks)."""
 import os
 import struct

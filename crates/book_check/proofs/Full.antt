@@ -16,11 +16,11 @@ use Rattle.table.specs.declared.Counts.{Counts}
 use Rattle.table.proofs.Facts.{table-facts, events-count}
 use Rattle.text.proofs.Tested.{broken, decided}
 use Rattle.table_check.proofs.Parts.{head-long}
-use Rattle.header.specs.Size.{SizeOk}
+use Rattle.book_header.specs.Size.{SizeOk}
 use Rattle.book.specs.Layout.{recordPlace, slots, holdSlots, recordSlots}
 use Rattle.book.specs.Check.{holdOk, recordOk, headerOk, fullOk}
 use Rattle.book.specs.Calls.{checked}
-use Rattle.header_check.proofs.Passed.{passed as header-passed}
+use Rattle.book_header_check.proofs.Passed.{passed as header-passed}
 use Rattle.book_check.specs.declared.Checked.the-variants.{Passed, NotTable, NotBook}
 use Rattle.book_check.specs.Read.{CheckedAs}
 use Rattle.book_check.specs.Walk.{orderly}

@@ -1,7 +1,7 @@
 // The full check of a book, and the answers 9 and 10 that saves, restores and rows share.
-use entry_check::hold_ok;
-use entry_check::record_ok;
-use header_check::header_ok;
+use book_entry_check::hold_ok;
+use book_entry_check::record_ok;
+use book_header_check::header_ok;
 use le::get_i64;
 use le::get_u32;
 use table::read_counts;
@@ -12,7 +12,7 @@ ghost use Prim.Native.Nat.{_+_, _*_, _≤_};
 ghost use lib.Dec.{eqb, ltb};
 ghost use lib.ListN.{length};
 ghost use Rattle.le.specs.Field.{u8, u32};
-ghost use Rattle.header.specs.Size.{SizeOk};
+ghost use Rattle.book_header.specs.Size.{SizeOk};
 ghost use Rattle.book.specs.Layout.{slots};
 ghost use Rattle.book.specs.Check.{holdOk, recordOk, fullOk};
 ghost use Rattle.book_check.specs.Read.{CheckedAs};

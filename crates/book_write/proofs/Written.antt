@@ -24,12 +24,12 @@ use Rattle.book.specs.Layout.{headBytes, holdBytes, holdOf, recordBytes, record
 use Rattle.book.specs.Calls.{settled, fed}
 use Rattle.book.proofs.Items.{items-one}
 use Rattle.book.proofs.Lengths.{records-written}
-use Rattle.entry.specs.Numbers.{HoldNumbers}
-use Rattle.header_check.proofs.Passed.{Passed, passed}
-use Rattle.machine.specs.Update.{wroteOf, goingOf}
-use Rattle.machine.specs.declared.Update.{Update}
-use Rattle.machine.specs.declared.Wrote.{Wrote}
-use Rattle.machine.specs.declared.Wrote.the-variants.{Nothing, One}
+use Rattle.book_entry.specs.Numbers.{HoldNumbers}
+use Rattle.book_header_check.proofs.Passed.{Passed, passed}
+use Rattle.position_machine.specs.Update.{wroteOf, goingOf}
+use Rattle.position_machine.specs.declared.Update.{Update}
+use Rattle.position_machine.specs.declared.Wrote.{Wrote}
+use Rattle.position_machine.specs.declared.Wrote.the-variants.{Nothing, One}
 use Rattle.book_write.specs.Write.{BookPassed, BarPassed}
 
 -- ---- what is known of the book

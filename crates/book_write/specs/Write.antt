@@ -7,10 +7,10 @@ use lib.Ieee.Scale.{finite}
 use Rattle.bar.specs.Bar.{timeOk}
 use Rattle.bar.specs.declared.Bar.{Bar}
 use Rattle.book.specs.Check.{headerOk}
-use Rattle.header.specs.Size.{SizeOk, priced}
-use Rattle.machine.specs.declared.Update.{Update}
-use Rattle.machine.specs.declared.Wrote.{Wrote}
-use Rattle.machine.specs.declared.Wrote.the-variants.{Nothing, One}
+use Rattle.book_header.specs.Size.{SizeOk, priced}
+use Rattle.position_machine.specs.declared.Update.{Update}
+use Rattle.position_machine.specs.declared.Wrote.{Wrote}
+use Rattle.position_machine.specs.declared.Wrote.the-variants.{Nothing, One}
 
 -- a book of c bars that passed 8 and 10
 pub record BookPassed (b : List ℕ) (c : ℕ) : Type 0 where

@@ -2,15 +2,15 @@
 use bar::Bar;
 use book::ENTRY_LENGTH;
 use book::HEAD_LENGTH;
-use entry::hold_at;
-use entry::put_hold;
-use entry::put_record;
-use header_write::put_head;
+use book_entry::hold_at;
+use book_entry::put_hold;
+use book_entry::put_record;
+use book_header_write::put_head;
 use le::get_u32;
-use machine::Update;
-use machine::Wrote;
-use machine::new_hold;
-use machine::settle;
+use position_machine::Update;
+use position_machine::Wrote;
+use position_machine::new_hold;
+use position_machine::settle;
 ghost use mathlib.Core.Path.{_≡_};
 ghost use mathlib.Core.Bool.{true};
 ghost use Prim.Native.Nat.{_+_, _<_, _≤_};
@@ -19,7 +19,7 @@ ghost use Rattle.le.specs.Le.{patch};
 ghost use Rattle.le.specs.Field.{u32 as Field·u32};
 ghost use Rattle.book.specs.Layout.{recordsBytes};
 ghost use Rattle.book.specs.Calls.{settled, fed};
-ghost use Rattle.machine.specs.Update.{wroteOf, goingOf};
+ghost use Rattle.position_machine.specs.Update.{wroteOf, goingOf};
 ghost use Rattle.book_write.specs.Write.{BookPassed, BarPassed, wrotePriced, Priced};
 
 // Works out the yield of the last hold, where there is one.

@@ -16,8 +16,8 @@ use Rattle.position.specs.Step.{plain}
 use Rattle.table.proofs.Examples.{soy, meant}
 use Rattle.book.specs.Layout.{encode}
 use Rattle.book.specs.Calls.{freshDo}
-use Rattle.rows.specs.Calls.{pairDo, pairBytes, holdDo}
-use Rattle.blocks.specs.Blocks.{countsDo}
+use Rattle.row.specs.Calls.{pairDo, pairBytes, holdDo}
+use Rattle.row_blocks.specs.Blocks.{countsDo}
 use Rattle.history.specs.Calls.{Call, Fresh, Feed, Save, Restore, Ask, PairRow, HoldRow, PairRows, HoldRows, Counts, EventName, bookAfter, doneFrom}
 use Rattle.history.specs.Survivors.{Past, Unknown, Known, survivors, AllOurs}
 use Rattle.history.proofs.Opened.{opened}

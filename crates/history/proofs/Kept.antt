@@ -25,8 +25,8 @@ use Rattle.book.proofs.Stored.{bars-are, sized-is, passes, save-is, restore-is}
 use Rattle.book.proofs.Parts.{holds-count as H-is, records-count as R-is}
 use Rattle.book.proofs.Passes.{Room, holds-small, records-small}
 use Rattle.book.proofs.Ready.{ready, holds-kept, records-kept}
-use Rattle.rows.specs.Calls.{rowBuffer, rowAt, pairDo, holdDo, eventNameDo}
-use Rattle.blocks.specs.Blocks.{holdRowBytes, holdRowLength, pairRowBytes, pairRowLimit, blockFrom, blockDo, holdBlockDo, pairBlockDo, countsDo}
+use Rattle.row.specs.Calls.{rowBuffer, rowAt, pairDo, holdDo, eventNameDo}
+use Rattle.row_blocks.specs.Blocks.{holdRowBytes, holdRowLength, pairRowBytes, pairRowLimit, blockFrom, blockDo, holdBlockDo, pairBlockDo, countsDo}
 use Rattle.history.specs.Demand3.{Kept}
 use Rattle.history.proofs.Invariant.{BookOf}
 use Rattle.history.proofs.Numbers.{pairs-numbers, holds-numbers}

@@ -16,7 +16,7 @@ use Rattle.position.specs.Rows.{opens, sideOf, pairOf, pairsOf, holdRow, holdRo
 use Rattle.position.specs.declared.Record.{Record}
 use Rattle.position.specs.declared.Hold.{Hold}
 use Rattle.position_laws.proofs.Sound.{HoldOk, RecordOk, YieldOk}
-use Rattle.field.proofs.Laws.{not-nan}
+use Rattle.book_field.proofs.Laws.{not-nan}
 use Rattle.history.specs.Demand3.{PairNumbers, HoldNumbers}
 
 pair-numbers : (s : Sheet) (a b : Record) → finite (a .bar .price) ≡ true → finite (b .bar .price) ≡ true → PairNumbers (pairOf s a b)

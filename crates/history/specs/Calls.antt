@@ -5,8 +5,8 @@ use lib.IntN.{ℤ}
 use Rattle.text.specs.Answer.{number, gotOr}
 use Rattle.position.specs.Feed.{Input}
 use Rattle.book.specs.Calls.{freshDo, feedDo, feedBytes, saveDo, restoreDo}
-use Rattle.rows.specs.Calls.{pairDo, holdDo, eventNameDo}
-use Rattle.blocks.specs.Blocks.{holdBlockDo, pairBlockDo, countsDo}
+use Rattle.row.specs.Calls.{pairDo, holdDo, eventNameDo}
+use Rattle.row_blocks.specs.Blocks.{holdBlockDo, pairBlockDo, countsDo}
 
 -- ---- one call
 

@@ -20,8 +20,8 @@ use Rattle.position.specs.Rows.{Pair, pairsOf, holdRows}
 use Rattle.position.specs.declared.HoldRow.{HoldRow}
 use Rattle.book.specs.Layout.{capacity, encode}
 use Rattle.book.specs.Calls.{freshDo, feedDo, saveDo, restoreDo}
-use Rattle.rows.specs.Calls.{rowBuffer, rowAt, pairDo, holdDo, eventNameDo}
-use Rattle.blocks.specs.Blocks.{holdRowBytes, holdRowLength, pairRowBytes, pairRowLimit, blockFrom, holdBlockDo, pairBlockDo, countsDo}
+use Rattle.row.specs.Calls.{rowBuffer, rowAt, pairDo, holdDo, eventNameDo}
+use Rattle.row_blocks.specs.Blocks.{holdRowBytes, holdRowLength, pairRowBytes, pairRowLimit, blockFrom, holdBlockDo, pairBlockDo, countsDo}
 use Rattle.history.specs.Calls.{Call, Fresh, Feed, Save, Restore, Ask, bookAfter, Done, doneFrom}
 use Rattle.history.specs.Survivors.{Known, survivors, AllOurs}
 

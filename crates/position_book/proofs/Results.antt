@@ -10,24 +10,24 @@ use mir.Facts.{toZ-ofZ}
 use Rattle.le.proofs.Signs.{back}
 use Rattle.text.specs.Answer.{Answer, number}
 use Rattle.book.specs.Calls.{feedDo}
-use Rattle.rows.specs.Calls.{pairDo, eventNameDo}
-use Rattle.store.specs.Stored.{storedOf, StoredAs}
-use Rattle.store.specs.declared.Stored.{Stored}
-use Rattle.store.specs.declared.Stored.the-variants.{Done, WrongLength, NotTable, NotBook}
-use Rattle.feed.specs.Feed.{feedOf, FeedAs}
-use Rattle.feed.specs.declared.Feed.{Feed}
-use Rattle.pairs.specs.Read.{pairReadOf, PairAs}
-use Rattle.pairs.specs.declared.PairRead.{PairRead}
-use Rattle.blocks.specs.Read.{blockReadOf, BlockAs}
-use Rattle.blocks.specs.declared.BlockRead.{BlockRead}
-use Rattle.titles.specs.Read.{nameReadOf, NameAs}
-use Rattle.titles.specs.declared.NameRead.{NameRead}
-use Rattle.answer_alone.specs.Calls.{lengthAnswer}
-use Rattle.answer_alone.specs.declared.NameAnswer.{NameAnswer}
-use Rattle.answer.specs.Rows.{feedAnswer, pairAnswer, blockAnswer}
-use Rattle.answer.specs.declared.FeedAnswer.{FeedAnswer}
-use Rattle.answer.specs.declared.PairAnswer.{PairAnswer}
-use Rattle.answer.specs.declared.BlockAnswer.{BlockAnswer}
+use Rattle.row.specs.Calls.{pairDo, eventNameDo}
+use Rattle.book_store.specs.Stored.{storedOf, StoredAs}
+use Rattle.book_store.specs.declared.Stored.{Stored}
+use Rattle.book_store.specs.declared.Stored.the-variants.{Done, WrongLength, NotTable, NotBook}
+use Rattle.book_feed.specs.Feed.{feedOf, FeedAs}
+use Rattle.book_feed.specs.declared.Feed.{Feed}
+use Rattle.row_pairs.specs.Read.{pairReadOf, PairAs}
+use Rattle.row_pairs.specs.declared.PairRead.{PairRead}
+use Rattle.row_blocks.specs.Read.{blockReadOf, BlockAs}
+use Rattle.row_blocks.specs.declared.BlockRead.{BlockRead}
+use Rattle.row_names.specs.Read.{nameReadOf, NameAs}
+use Rattle.row_names.specs.declared.NameRead.{NameRead}
+use Rattle.position_book_answer_alone.specs.Calls.{lengthAnswer}
+use Rattle.position_book_answer_alone.specs.declared.NameAnswer.{NameAnswer}
+use Rattle.position_book_answer.specs.Rows.{feedAnswer, pairAnswer, blockAnswer}
+use Rattle.position_book_answer.specs.declared.FeedAnswer.{FeedAnswer}
+use Rattle.position_book_answer.specs.declared.PairAnswer.{PairAnswer}
+use Rattle.position_book_answer.specs.declared.BlockAnswer.{BlockAnswer}
 use Rattle.position_book.specs.Results.{StoreIs, FeedIs, PairIs, BlockIs, EventNameIs}
 
 -- the number does not depend on the bytes

@@ -9,14 +9,14 @@ use Rattle.table.specs.Compile.{Compiled}
 use Rattle.position.specs.Feed.{Accepted}
 use Rattle.position.specs.Rows.{Pair}
 use Rattle.book.specs.Calls.{feedBytes}
-use Rattle.rows.specs.Calls.{pairBytes, pairRow, eventNameBytes}
-use Rattle.blocks.specs.Blocks.{blockOf, blockBytes}
-use Rattle.answer_alone.specs.Calls.{nameAnswer}
-use Rattle.answer_alone.specs.declared.NameAnswer.{NameAnswer}
-use Rattle.answer.specs.Rows.{feedAnswer, pairAnswer, blockAnswer}
-use Rattle.answer.specs.declared.FeedAnswer.{FeedAnswer}
-use Rattle.answer.specs.declared.PairAnswer.{PairAnswer}
-use Rattle.answer.specs.declared.BlockAnswer.{BlockAnswer}
+use Rattle.row.specs.Calls.{pairBytes, pairRow, eventNameBytes}
+use Rattle.row_blocks.specs.Blocks.{blockOf, blockBytes}
+use Rattle.position_book_answer_alone.specs.Calls.{nameAnswer}
+use Rattle.position_book_answer_alone.specs.declared.NameAnswer.{NameAnswer}
+use Rattle.position_book_answer.specs.Rows.{feedAnswer, pairAnswer, blockAnswer}
+use Rattle.position_book_answer.specs.declared.FeedAnswer.{FeedAnswer}
+use Rattle.position_book_answer.specs.declared.PairAnswer.{PairAnswer}
+use Rattle.position_book_answer.specs.declared.BlockAnswer.{BlockAnswer}
 
 -- the table means the sheet, or is as it was
 abbrev pub CompileIs : Answer Sheet → List ℕ → List ℕ → ℕ → Type 0

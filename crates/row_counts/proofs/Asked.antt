@@ -12,13 +12,13 @@ use Rattle.table.specs.Table.{sheetOf}
 use Rattle.position.specs.Rows.{pairsOf, holdRows}
 use Rattle.book.specs.Layout.{recordsOf, holdsOf}
 use Rattle.book.specs.Calls.{checked}
-use Rattle.header.specs.Size.{SizedAs}
-use Rattle.header.specs.declared.Sized.the-variants.{Bars, Wrong}
+use Rattle.book_header.specs.Size.{SizedAs}
+use Rattle.book_header.specs.declared.Sized.the-variants.{Bars, Wrong}
 use Rattle.book_check.specs.Read.{CheckedAs}
 use Rattle.book_check.specs.declared.Checked.the-variants.{Passed, NotTable, NotBook}
-use Rattle.blocks.specs.Blocks.{holdRowBytes, countsDo}
-use Rattle.blocks.specs.declared.RowCounts.{RowCounts}
-use Rattle.hold_block.proofs.Row.{rows-length}
+use Rattle.row_blocks.specs.Blocks.{holdRowBytes, countsDo}
+use Rattle.row_blocks.specs.declared.RowCounts.{RowCounts}
+use Rattle.row_blocks_holds.proofs.Row.{rows-length}
 
 module _ (t b : List ℕ) where
   -- the counts of a book of c bars, by the sheet

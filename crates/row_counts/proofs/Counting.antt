@@ -8,10 +8,10 @@ use Rattle.le.specs.Field.{u32}
 use Rattle.sheet.specs.Sheet.{Sheet}
 use Rattle.position.specs.Rows.{pairsOf}
 use Rattle.book.specs.Layout.{recordsOf}
-use Rattle.pairs.specs.Found.{foundOf, Followed, FoundAs}
-use Rattle.pairs.specs.declared.FoundPair.{FoundPair}
-use Rattle.pairs.specs.declared.FoundPair.the-variants.{At, Nowhere}
-use Rattle.pair_block.proofs.Walking.{earlier}
+use Rattle.row_pairs.specs.Found.{foundOf, Followed, FoundAs}
+use Rattle.row_pairs.specs.declared.FoundPair.{FoundPair}
+use Rattle.row_pairs.specs.declared.FoundPair.the-variants.{At, Nowhere}
+use Rattle.row_blocks_pairs.proofs.Walking.{earlier}
 
 -- n pairs are counted, and those from the one that was found on are not
 pub record Counting (c : ℕ) (b : List ℕ) (found : FoundPair) (n : ℕ) : Type 0 where

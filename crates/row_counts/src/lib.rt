@@ -1,13 +1,13 @@
 // How many hold rows and pair rows a book has.
-use blocks::CountsRead;
-use blocks::RowCounts;
 use book_check::Checked;
 use book_check::check_book;
-use header::Sized;
-use header::size_of;
+use book_header::Sized;
+use book_header::size_of;
 use le::get_u32;
-use pairs::FoundPair;
-use pairs::find_pair;
+use row_blocks::CountsRead;
+use row_blocks::RowCounts;
+use row_pairs::FoundPair;
+use row_pairs::find_pair;
 ghost use mathlib.Core.Path.{_≡_};
 ghost use Prim.Native.Nat.{_+_, _≤_};
 ghost use lib.ListN.{length};
@@ -15,8 +15,8 @@ ghost use Rattle.le.specs.Field.{u32};
 ghost use Rattle.sheet.specs.Sheet.{Sheet};
 ghost use Rattle.position.specs.Rows.{pairsOf};
 ghost use Rattle.book.specs.Layout.{recordPlace, recordsOf};
-ghost use Rattle.blocks.specs.Blocks.{countsDo};
-ghost use Rattle.blocks.specs.Read.{countsReadOf};
+ghost use Rattle.row_blocks.specs.Blocks.{countsDo};
+ghost use Rattle.row_blocks.specs.Read.{countsReadOf};
 
 // How many pairs the records of a book of c bars make, whatever the sheet.
 fn count_pairs(b: &[u8], c: u32) -> usize

@@ -15,8 +15,8 @@ use Rattle.position.specs.declared.Hold.{Hold}
 use Rattle.book.specs.Layout.{capacity, freshBook, holdsOf}
 use Rattle.book.specs.Calls.{freshDo}
 use Rattle.book.proofs.Lengths.{capacity-by}
-use Rattle.store.specs.Stored.{StoredAs}
-use Rattle.store.specs.declared.Stored.{Stored}
+use Rattle.book_store.specs.Stored.{StoredAs}
+use Rattle.book_store.specs.declared.Stored.{Stored}
 use Rattle.run_fields.specs.Fields.{ShortPut}
 use Rattle.run_output.specs.Shown.{pairRoom, holdRoom}
 use Rattle.run_rows.specs.Rows.{Booked, pairRows, pairLines, holdLines}

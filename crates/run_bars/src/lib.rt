@@ -1,11 +1,11 @@
 // The run program's bars: a fresh book is fed with the lines behind `-`, and what is said of each is printed, then the book's rows.
 use book::ENTRY_LENGTH;
 use book::HEAD_LENGTH;
+use book_store::fresh;
 use run_feed::Ran;
 use run_feed::feed_lines;
 use run_rows::put_holds;
 use run_rows::put_pairs;
-use store::fresh;
 ghost use Rattle.run_bars.specs.Steps.{Begun, RanAs};
 
 // The most bytes of an input.

@@ -23,7 +23,7 @@ use Rattle.history.proofs.Invariant.{BookOf}
 use Rattle.history.proofs.Answered.{Cleared}
 use Rattle.history.proofs.Booked.{Next, cleared, cleared-bars, fed-next}
 use Rattle.run_rows.specs.Rows.{Booked}
-use Rattle.run_one.specs.One.{Held, barLineOf, FedOne}
+use Rattle.run_feed_one.specs.One.{Held, barLineOf, FedOne}
 use Rattle.run_feed.specs.Steps.{fedLines, FedAll}
 
 -- ---- the lines

@@ -17,7 +17,7 @@ use Rattle.position.specs.Cases.{stateAfter}
 use Rattle.position.specs.Run.{runBars, inputLimit, inputLine, Asked, readInput, line, feedLine, nextState}
 use Rattle.run_input.specs.Lines.{inputOf}
 use Rattle.run_output.specs.Shown.{feedRoom}
-use Rattle.run_one.specs.One.{Held, FedOne}
+use Rattle.run_feed_one.specs.One.{Held, FedOne}
 use Rattle.run_feed.specs.declared.Waiting.{Waiting}
 use Rattle.run_feed.specs.declared.Waiting.the-variants.{Bar, Nothing}
 use Rattle.run_feed.specs.declared.Progress.{Progress}

@@ -1,8 +1,8 @@
 // The run program's bars: each line is read, and each bar is fed with its signals and printed.
+use run_feed_one::feed_one;
 use run_input::BarLine;
 use run_input::InputLine;
 use run_input::read_line;
-use run_one::feed_one;
 use text::LF;
 use text::find;
 use text::put_part;

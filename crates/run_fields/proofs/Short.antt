@@ -12,7 +12,7 @@ use Rattle.text.specs.Number.{integerOf, hexOf}
 use Rattle.text.specs.Read.{Part, Put}
 use Rattle.text.proofs.Put.{put-put}
 use Rattle.text_write.proofs.Written.{length-hex}
-use Rattle.header_check.proofs.Fields.{bytes-are}
+use Rattle.book_header_check.proofs.Fields.{bytes-are}
 use Rattle.run_fields.specs.Fields.{fieldsText, ShortPut}
 use Rattle.run_fields.proofs.Lines.{put-more, put-one}
 

@@ -6,8 +6,8 @@ use lib.ListN.{length, drop, length-append}
 use lib.Seq.{drop-at, take-append-seam}
 use Rattle.le.specs.Le.{part, patch}
 use Rattle.position.specs.Rows.{Pair}
-use Rattle.rows.specs.Calls.{pairText, pairRow}
-use Rattle.pairs.proofs.Texts.{start}
+use Rattle.row.specs.Calls.{pairText, pairRow}
+use Rattle.row_pairs.proofs.Texts.{start}
 use Rattle.run_output.specs.Shown.{pairIn}
 
 -- a text behind n bytes

@@ -9,7 +9,7 @@ use Rattle.le.specs.Le.{part}
 use Rattle.position.specs.Rows.{Pair}
 use Rattle.position.specs.declared.HoldRow.{HoldRow}
 use Rattle.position.specs.declared.PairRow.{PairRow}
-use Rattle.rows.specs.Calls.{rowBuffer}
+use Rattle.row.specs.Calls.{rowBuffer}
 use Rattle.run_fields.specs.Fields.{YieldShown}
 
 -- room for every line: of a feed or a refusal, of a pair row, of a hold row

@@ -21,7 +21,7 @@ use Rattle.position.specs.declared.Hold.{Hold}
 use Rattle.position.specs.declared.HoldRow.{HoldRow}
 use Rattle.book.specs.Layout.{recordsOf, holdsOf}
 use Rattle.book.proofs.Ready.{holds-kept, records-kept}
-use Rattle.rows.specs.Calls.{rowBuffer, rowAt, pairDo, holdDo}
+use Rattle.row.specs.Calls.{rowBuffer, rowAt, pairDo, holdDo}
 use Rattle.history.specs.Demand3.{PairNumbers, HoldNumbers}
 use Rattle.history.proofs.Numbers.{pairs-numbers, holds-numbers}
 use Rattle.history.proofs.Kept.{pair-is, hold-is}

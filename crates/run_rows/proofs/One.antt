@@ -21,14 +21,14 @@ use Rattle.position.specs.Run.{runBars, pairLine, holdLine}
 use Rattle.position.specs.declared.HoldRow.{HoldRow}
 use Rattle.position.specs.declared.PairRow.{PairRow}
 use Rattle.book.specs.Layout.{holdsOf}
-use Rattle.rows.specs.Calls.{rowBuffer, rowAt, pairDo, pairText, pairBytes, pairRow, holdDo}
-use Rattle.pairs.specs.Read.{pairReadOf, PairAs}
-use Rattle.pairs.specs.declared.PairRead.{PairRead}
-use Rattle.pairs.specs.declared.PairRead.the-variants as PairRead
-use Rattle.pairs.proofs.Texts.{pair-room}
-use Rattle.holds.specs.Read.{holdReadOf}
-use Rattle.holds.specs.declared.HoldRead.{HoldRead}
-use Rattle.holds.specs.declared.HoldRead.the-variants as HoldRead
+use Rattle.row.specs.Calls.{rowBuffer, rowAt, pairDo, pairText, pairBytes, pairRow, holdDo}
+use Rattle.row_pairs.specs.Read.{pairReadOf, PairAs}
+use Rattle.row_pairs.specs.declared.PairRead.{PairRead}
+use Rattle.row_pairs.specs.declared.PairRead.the-variants as PairRead
+use Rattle.row_pairs.proofs.Texts.{pair-room}
+use Rattle.row_holds.specs.Read.{holdReadOf}
+use Rattle.row_holds.specs.declared.HoldRead.{HoldRead}
+use Rattle.row_holds.specs.declared.HoldRead.the-variants as HoldRead
 use Rattle.run_fields.specs.Fields.{ShortPut, YieldShown}
 use Rattle.run_output.specs.Shown.{pairRoom, holdRoom, pairIn, PairShown, HoldShown}
 use Rattle.run_output.proofs.Texts.{pair-back}

@@ -1,9 +1,9 @@
 // All rows of a book as the run program prints them: its pairs, then its holds.
-use holds::HoldRead;
-use holds::hold_row;
-use pairs::PairRead;
-use pairs::ROW_BUFFER;
-use pairs::pair_row;
+use row_holds::HoldRead;
+use row_holds::hold_row;
+use row_pairs::PairRead;
+use row_pairs::ROW_BUFFER;
+use row_pairs::pair_row;
 use run_output::HOLD_ROOM;
 use run_output::PAIR_ROOM;
 use run_output::put_hold;

@@ -19,8 +19,8 @@ use Rattle.sheet.specs.Sheet.{Sheet}
 use Rattle.sheet.specs.Read.{readSheet}
 use Rattle.table.specs.Layout.{tableLength}
 use Rattle.table.specs.Compile.{compileDo, Compiled, Means}
-use Rattle.compile.specs.Outcome.{numberOf, CompiledAs}
-use Rattle.compile.specs.declared.Outcome.{Outcome}
+use Rattle.table_compile.specs.Outcome.{numberOf, CompiledAs}
+use Rattle.table_compile.specs.declared.Outcome.{Outcome}
 use Rattle.position.specs.Run.{inputLimit, cut, inputLine, readInput, line, runDo}
 use Rattle.history.proofs.Answered.{compile-gives}
 use Rattle.run_input.specs.Lines.{CutAt}

@@ -1,5 +1,4 @@
 // The run program's work: from the bytes of its input to the bytes that it prints.
-use compile::compile;
 use run_bars::INPUT_LIMIT;
 use run_bars::run_bars;
 use run_feed::Ran;
@@ -7,6 +6,7 @@ use run_input::Dash;
 use run_input::find_dash;
 use run_output::put_refusal;
 use table::TABLE_LENGTH;
+use table_compile::compile;
 use text::clear;
 ghost use mathlib.Core.Path.{_≡_};
 ghost use Prim.Native.Nat.{_≤_};

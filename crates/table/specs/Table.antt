@@ -8,7 +8,7 @@ use Rattle.text.specs.Answer.{Answer, Got, _>>=_, must}
 use Rattle.text.specs.Conditions.{allOf, every}
 use Rattle.signal.specs.Signal.{wildcard, scoreLimit}
 use Rattle.sheet.specs.Sheet.{kindOf, Clause, Event, Sheet, eventLimit, clauseLimit, nameLimit, intervalLimit, timeoutLimit, stopLimit, t0Limit}
-use Rattle.words.specs.Words.{clean, wordOk, keyParts, valueParts, distinct, ordered}
+use Rattle.table_words.specs.Words.{clean, wordOk, keyParts, valueParts, distinct, ordered}
 use Rattle.table.specs.Layout.{tableLength, headLength, eventLength, clauseLength, wordLength, settingsIn, countsIn, placesIn, Parts, partsIn, eventText, wordText}
 use Rattle.table.specs.declared.Settings.{Settings}
 use Rattle.table.specs.declared.Counts.{Counts}

@@ -9,7 +9,7 @@ use Rattle.le.specs.Le.{part}
 use Rattle.text.specs.Conditions.{allOf, every}
 use Rattle.text.proofs.Conditions.{_also_, none-left, fact}
 use Rattle.text.proofs.Every.{every-cons, every-at}
-use Rattle.words.specs.Words.{clean, keyParts, valueParts}
+use Rattle.table_words.specs.Words.{clean, keyParts, valueParts}
 use Rattle.table.specs.Layout.{headLength, countsIn, placesIn, Parts, partsIn}
 use Rattle.table.specs.Table.{headOk, eventsOk, clausesOk, wordsOk, partsOk, isTable}
 use Rattle.table.specs.Read.{Headed}

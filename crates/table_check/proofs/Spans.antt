@@ -11,8 +11,8 @@ use Rattle.le.specs.Le.{part}
 use Rattle.text.specs.Conditions.{every}
 use Rattle.text.proofs.Conditions.{fact}
 use Rattle.text.proofs.Every.{every-cons}
-use Rattle.words.specs.Words.{clean, wordOk}
-use Rattle.words.proofs.Cut.{whole-clean}
+use Rattle.table_words.specs.Words.{clean, wordOk}
+use Rattle.table_words.proofs.Cut.{whole-clean}
 use Rattle.table.specs.Layout.{eventText, wordText}
 use Rattle.table.specs.Table.{follow, eventOk, eventsOk, wordsOk}
 use Rattle.table.specs.declared.EventRow.{EventRow}

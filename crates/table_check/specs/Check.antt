@@ -3,7 +3,7 @@ use mathlib.Core.Bool.{Bool}
 use mathlib.Core.List.{[], _∷_}
 use lib.ListN.{length}
 use Rattle.text.specs.Conditions.{allOf}
-use Rattle.words.specs.Words.{keyParts, valueParts}
+use Rattle.table_words.specs.Words.{keyParts, valueParts}
 use Rattle.table.specs.Layout.{Parts}
 use Rattle.table.specs.Table.{eventsOk, clausesOk, wordsOk}
 

@@ -10,9 +10,9 @@ use lib.ListN.{length, getD, drop}
 use borrow.Author.Tests.{eq-eqb, ne-eqb, eqb-true, leb-false}
 use Rattle.text.specs.Conditions.{allOf, every}
 use Rattle.text.proofs.Conditions.{Each, _also_, none-left, sure, fact}
-use Rattle.words.specs.Words.{clean}
-use Rattle.words.specs.Read.{isCut}
-use Rattle.words.proofs.Cut.{part-clean, rest-clean}
+use Rattle.table_words.specs.Words.{clean}
+use Rattle.table_words.specs.Read.{isCut}
+use Rattle.table_words.proofs.Cut.{part-clean, rest-clean}
 use Rattle.table.specs.Layout.{eventLength, eventIn, eventText}
 use Rattle.table.specs.Table.{follow, eventOk, eventsOk}
 use Rattle.table.specs.Read.{EventAt}

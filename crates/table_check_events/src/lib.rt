@@ -2,12 +2,12 @@
 use sheet::NAME_LIMIT;
 use table::EventRow;
 use table::event_at;
-use words::is_cut;
+use table_words::is_cut;
 ghost use mathlib.Core.Path.{_≡_};
 ghost use mathlib.Core.Bool.{true};
 ghost use Prim.Native.Nat.{_*_, _≤_};
 ghost use lib.ListN.{length, drop};
-ghost use Rattle.words.specs.Words.{clean};
+ghost use Rattle.table_words.specs.Words.{clean};
 ghost use Rattle.table.specs.Layout.{eventLength};
 ghost use Rattle.table.specs.Table.{eventOk, eventsOk};
 ghost use Rattle.table_check_events.specs.Check.{eventRows, eventStep};

@@ -8,7 +8,7 @@ use lib.ListN.{take, drop}
 use lib.Seq.{drop-drop}
 use Rattle.text.specs.Conditions.{every}
 use Rattle.text.proofs.Laws.{part-size}
-use Rattle.words.specs.Words.{clean}
+use Rattle.table_words.specs.Words.{clean}
 use Rattle.table.specs.Layout.{partsIn}
 use Rattle.table.specs.Read.{Headed}
 use Rattle.table.specs.declared.Counts.{Counts}

@@ -10,10 +10,10 @@ use Rattle.le.specs.Le.{part}
 use Rattle.text.specs.Conditions.{allOf, every}
 use Rattle.text.proofs.Every.{every-one, every-cons}
 use Rattle.text.proofs.Laws.{part-size, part-take}
-use Rattle.words.specs.Words.{clean}
-use Rattle.words.specs.Read.{isCut}
-use Rattle.words.proofs.Cut.{part-clean, rest-clean, whole-clean}
-use Rattle.words.proofs.Opened.{opened}
+use Rattle.table_words.specs.Words.{clean}
+use Rattle.table_words.specs.Read.{isCut}
+use Rattle.table_words.proofs.Cut.{part-clean, rest-clean, whole-clean}
+use Rattle.table_words.proofs.Opened.{opened}
 use Rattle.table.specs.Layout.{between}
 use Rattle.table_check_texts.specs.Check.{allCut}
 

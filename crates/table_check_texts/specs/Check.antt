@@ -4,8 +4,8 @@ use mathlib.Core.Bool.{Bool}
 use mathlib.Core.List.{List, [], _∷_, map}
 use lib.ListN.{drop}
 use Rattle.text.specs.Conditions.{allOf, every}
-use Rattle.words.specs.Read.{isCut}
-use Rattle.words.specs.Words.{clean}
+use Rattle.table_words.specs.Read.{isCut}
+use Rattle.table_words.specs.Words.{clean}
 use Rattle.table.specs.Layout.{Parts}
 
 -- s may be cut at each of the places

@@ -1,8 +1,8 @@
 // Whether the texts of a table are clean, all at one look.
 use table::Counts;
 use table::Places;
-use words::is_clean;
-use words::is_cut;
+use table_words::is_clean;
+use table_words::is_cut;
 ghost use mathlib.Core.Path.{_≡_};
 ghost use mathlib.Core.List.{[], _∷_};
 ghost use Rattle.table.specs.Layout.{partsIn};

@@ -1,7 +1,7 @@
 -- The words of case *1's table. Assumes nothing.
 use mathlib.Core.Bool.{true, false}
 use mathlib.Core.Path.{_≡_, refl}
-use Rattle.words.specs.Words.{keyParts, valueParts}
+use Rattle.table_words.specs.Words.{keyParts, valueParts}
 use Rattle.table.specs.Layout.{partsIn}
 use Rattle.table.proofs.Examples.{soy}
 use Rattle.table_check_words.specs.Check.{ordersOf, laid, ranksFrom}

@@ -10,7 +10,7 @@ use borrow.Author.Tests.{lt-ltb, le-ltb, ltb-true}
 use Rattle.list.proofs.Laws.{rows-length}
 use Rattle.text.specs.Conditions.{allOf, every}
 use Rattle.text.proofs.Conditions.{_also_, none-left}
-use Rattle.words.specs.Words.{ranked}
+use Rattle.table_words.specs.Words.{ranked}
 use Rattle.table.specs.Layout.{wordLength, wordIn, wordText}
 use Rattle.table.specs.Read.{WordAt}
 use Rattle.table.specs.declared.WordRow.{WordRow}

@@ -7,10 +7,10 @@ use mathlib.Core.Path.{_≡_, refl, sym, ap, _∙_}
 use lib.ListN.{length, take, drop, length-drop}
 use lib.Seq.{drop-cons}
 use Rattle.text.specs.Text.{same}
-use Rattle.words.specs.Words.{less, ascending}
-use Rattle.words_order.specs.Read.{orderOf}
-use Rattle.words_order.specs.declared.Order.{Order}
-use Rattle.words_order.specs.declared.Order.the-variants.{Less, Same, More}
+use Rattle.table_words.specs.Words.{less, ascending}
+use Rattle.table_words_order.specs.Read.{orderOf}
+use Rattle.table_words_order.specs.declared.Order.{Order}
+use Rattle.table_words_order.specs.declared.Order.the-variants.{Less, Same, More}
 use Rattle.table.specs.Layout.{wordText}
 use Rattle.table.specs.Read.{WordAt}
 use Rattle.table.specs.declared.WordRow.{WordRow}

@@ -11,8 +11,8 @@ use Rattle.list.proofs.Laws.{rows-length, rows-at}
 use Rattle.text.specs.Conditions.{allOf}
 use Rattle.text.proofs.Conditions.{fact}
 use Rattle.text.proofs.Every.{every-below}
-use Rattle.words.specs.Words.{ascending, ordered}
-use Rattle.words_order.proofs.Apart.{apart}
+use Rattle.table_words.specs.Words.{ascending, ordered}
+use Rattle.table_words_order.proofs.Apart.{apart}
 use Rattle.table.specs.Layout.{wordLength, wordIn, wordText}
 use Rattle.table.specs.Table.{wordsOk}
 use Rattle.table.specs.declared.WordRow.{WordRow}

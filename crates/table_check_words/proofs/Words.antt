@@ -11,10 +11,10 @@ use Rattle.le.proofs.Laws.{part-lent}
 use Rattle.text.specs.Conditions.{allOf, every}
 use Rattle.text.specs.Text.{split, underscore}
 use Rattle.text.proofs.Conditions.{fact}
-use Rattle.words.specs.Words.{clean, wordOk}
-use Rattle.words.specs.Read.{isCut}
-use Rattle.words_parts.specs.Read.{fit}
-use Rattle.words.proofs.Cut.{part-clean, rest-clean}
+use Rattle.table_words.specs.Words.{clean, wordOk}
+use Rattle.table_words.specs.Read.{isCut}
+use Rattle.table_words_parts.specs.Read.{fit}
+use Rattle.table_words.proofs.Cut.{part-clean, rest-clean}
 use Rattle.table.specs.Layout.{wordLength, wordIn, wordText}
 use Rattle.table.specs.Table.{follow}
 use Rattle.table.specs.Read.{WordAt}

@@ -6,7 +6,7 @@ use lib.Dec.{leb, ltb, eqb}
 use lib.ListN.{length, drop}
 use Rattle.list.specs.Numbered.{rows}
 use Rattle.text.specs.Conditions.{allOf, every}
-use Rattle.words.specs.Words.{wordOk, ranked}
+use Rattle.table_words.specs.Words.{wordOk, ranked}
 use Rattle.table.specs.Layout.{wordLength, wordIn, wordText}
 use Rattle.table.specs.Table.{follow}
 use Rattle.table.specs.declared.WordRow.{WordRow}

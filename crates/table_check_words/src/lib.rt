@@ -1,18 +1,18 @@
 // Whether the keys, or the values, of a table are right: laid one after another in their texts, of few parts, and distinct.
 use table::WordRow;
 use table::word_at;
-use words::is_cut;
-use words_order::Order;
-use words_order::compare;
-use words_parts::few_parts;
-use words_parts::is_tame;
+use table_words::is_cut;
+use table_words_order::Order;
+use table_words_order::compare;
+use table_words_parts::few_parts;
+use table_words_parts::is_tame;
 ghost use mathlib.Core.Path.{_≡_};
 ghost use mathlib.Core.Bool.{true, false};
 ghost use Prim.Native.Nat.{_*_, _≤_, _<_};
 ghost use lib.ListN.{length, drop};
 ghost use Rattle.text.specs.Conditions.{allOf};
-ghost use Rattle.words.specs.Words.{clean, less, ascending};
-ghost use Rattle.words_parts.specs.Read.{paired};
+ghost use Rattle.table_words.specs.Words.{clean, less, ascending};
+ghost use Rattle.table_words_parts.specs.Read.{paired};
 ghost use Rattle.table.specs.Layout.{wordLength, wordText};
 ghost use Rattle.table.specs.Table.{wordsOk};
 ghost use Rattle.table_check_words.specs.Check.{wordRows, wordAt, textsOf, ordersOf, wordAsked, laid, rankAsked, ranksFrom, Inside};

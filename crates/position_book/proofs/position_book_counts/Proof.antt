@@ -1,7 +1,7 @@
 -- The counts. Assumes nothing.
 use mathlib.Core.Path.{_∙_, ap}
 use borrow.Author.Needs.{needs}
-use Rattle.answer.specs.Rows.{countsAnswer}
+use Rattle.position_book_answer.specs.Rows.{countsAnswer}
 use Rattle.position_book.proofs.position_book_counts.Statement.{statement}
 use Rattle.position_book.proofs.position_book_counts.Tie as tie
 

@@ -3,8 +3,8 @@ use mathlib.Core.Path.{_∙_, ap}
 use mir.Syntax.{w64}
 use mir.Facts.{toZ-ofZ}
 use borrow.Author.Needs.{needs}
-use Rattle.rows.specs.Calls.{holdDo}
-use Rattle.answer.specs.Rows.{holdAnswer}
+use Rattle.row.specs.Calls.{holdDo}
+use Rattle.position_book_answer.specs.Rows.{holdAnswer}
 use Rattle.position_book.proofs.position_book_hold_row.Statement.{statement}
 use Rattle.position_book.proofs.position_book_hold_row.Tie as tie
 

@@ -1,6 +1,6 @@
 -- How many rows there are and how long, and the bytes of the buffer. Assumes nothing.
 use borrow.Author.Needs.{needs}
-use Rattle.blocks.specs.Blocks.{holdBlockDo}
+use Rattle.row_blocks.specs.Blocks.{holdBlockDo}
 use Rattle.position_book.proofs.Results.{block-is}
 use Rattle.position_book.proofs.position_book_hold_rows.Statement.{statement}
 use Rattle.position_book.proofs.position_book_hold_rows.Tie as tie

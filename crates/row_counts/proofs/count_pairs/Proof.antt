@@ -3,9 +3,9 @@ use native.Mathlib.Omega.{arith}
 use mathlib.Core.Path.{subst}
 use borrow.Author.Needs.{needs}
 use Rattle.le.specs.Field.{u32}
-use Rattle.pairs.specs.declared.FoundPair.{FoundPair}
-use Rattle.pairs.specs.declared.FoundPair.the-variants.{At}
-use Rattle.pair_block.proofs.Walking.{left, left-less}
+use Rattle.row_pairs.specs.declared.FoundPair.{FoundPair}
+use Rattle.row_pairs.specs.declared.FoundPair.the-variants.{At}
+use Rattle.row_blocks_pairs.proofs.Walking.{left, left-less}
 use Rattle.row_counts.proofs.Counting.{Counting, counting-none, counting-next, counting-last}
 use Rattle.row_counts.proofs.count_pairs.Statement.{statement}
 use Rattle.row_counts.proofs.count_pairs.Tie as tie

@@ -2,13 +2,13 @@
 use native.Mathlib.Omega.{arith}
 use mathlib.Core.Path.{_≡_, subst}
 use borrow.Author.Needs.{needs}
-use Rattle.header.specs.Size.{SizedAs}
-use Rattle.header.specs.declared.Sized.the-variants.{Bars}
+use Rattle.book_header.specs.Size.{SizedAs}
+use Rattle.book_header.specs.declared.Sized.the-variants.{Bars}
 use Rattle.table.specs.Layout.{partsIn}
 use Rattle.table.specs.Table.{sheetOf}
 use Rattle.book_check.specs.Read.{CheckedAs}
 use Rattle.book_check.specs.declared.Checked.{Checked}
-use Rattle.pairs.proofs.Records.{traded}
+use Rattle.row_pairs.proofs.Records.{traded}
 use Rattle.row_counts.proofs.Asked.{wrong-length, not-table, not-book, passed}
 use Rattle.row_counts.proofs.row_counts.Statement.{statement}
 use Rattle.row_counts.proofs.row_counts.Tie as tie

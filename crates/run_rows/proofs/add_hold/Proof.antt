@@ -1,6 +1,6 @@
 -- The row that a request answers, printed in a lent part. Assumes nothing.
 use mathlib.Core.Path.{refl, ap}
-use Rattle.holds.specs.Read.{holdReadOf}
+use Rattle.row_holds.specs.Read.{holdReadOf}
 use Rattle.run_output.specs.Shown.{holdRoom}
 use Rattle.run_rows.proofs.Lent.{lent-room}
 use Rattle.run_rows.proofs.One.{no-hold, hold-ready, hold-printed}

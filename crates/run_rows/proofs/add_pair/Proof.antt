@@ -1,7 +1,7 @@
 -- The row that a request answers, printed in a lent part. Assumes nothing.
 use native.Mathlib.Omega.{arith}
 use mathlib.Core.Path.{refl, ap}
-use Rattle.pairs.specs.Read.{pairReadOf}
+use Rattle.row_pairs.specs.Read.{pairReadOf}
 use Rattle.run_output.specs.Shown.{pairRoom}
 use Rattle.run_rows.proofs.Lent.{lent-room}
 use Rattle.run_rows.proofs.One.{no-pair, pair-ready, pair-printed}

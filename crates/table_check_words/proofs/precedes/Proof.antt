@@ -1,6 +1,6 @@
 -- `table_check_words::precedes` meets its contract. Assumes nothing.
 use Rattle.table_check_words.proofs.Rising.{inside-text, precedes-is}
-use Rattle.words_order.specs.declared.Order.the-variants.{Less, Same, More}
+use Rattle.table_words_order.specs.declared.Order.the-variants.{Less, Same, More}
 use borrow.Author.Needs.{needs}
 use Rattle.table_check_words.proofs.precedes.Statement.{statement}
 use Rattle.table_check_words.proofs.precedes.Tie as tie

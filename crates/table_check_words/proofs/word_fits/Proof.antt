@@ -1,6 +1,6 @@
 -- `table_check_words::word_fits` meets its contract. Assumes nothing.
 use Rattle.table_check_words.proofs.Words.{word-uncut, word-parts}
-use Rattle.words_parts.proofs.Tame.{part-tame}
+use Rattle.table_words_parts.proofs.Tame.{part-tame}
 use Rattle.text.proofs.Tested.{broken, decided, no, yes}
 use Rattle.text.proofs.Conditions.{_also_, none-left}
 use borrow.Author.Tests.{eq-eqb, ne-eqb, le-leb, lt-leb}

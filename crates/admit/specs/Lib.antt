@@ -1,2 +1,0 @@
--- The definitions that the contracts of `admit` cite.
-pub mod Bars

@@ -1,0 +1,2 @@
+-- The definitions that the contracts of `book_entry` cite.
+pub mod Numbers

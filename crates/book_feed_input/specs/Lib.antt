@@ -1,0 +1,2 @@
+-- The definitions that the contracts of `book_feed_input` cite.
+pub mod Bars

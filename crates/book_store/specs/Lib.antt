@@ -1,0 +1,3 @@
+-- The definitions that the contracts of `book_store` cite.
+pub mod Stored
+pub mod Copied

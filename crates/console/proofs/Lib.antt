@@ -1,2 +1,0 @@
--- The proofs of `console`.
-pub mod Laws

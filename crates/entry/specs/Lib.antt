@@ -1,2 +1,0 @@
--- The definitions that the contracts of `entry` cite.
-pub mod Numbers

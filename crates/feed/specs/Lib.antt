@@ -1,3 +1,0 @@
--- The definitions that the contracts of `feed` cite.
-pub mod Feed
-pub mod Steps

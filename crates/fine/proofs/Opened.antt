@@ -1,8 +1,0 @@
--- Opens every definition of `fine` and of what it leans on, for examples that compute. Assumes nothing.
-use Rattle.sheet.proofs.Opened.{opened as opened-sheet}
-use Rattle.words.proofs.Opened.{opened as opened-words}
-use Rattle.fine.specs.Fine.{fineClause, fineEvent, allClauses, clauseWeight, clausesWeight, eventsWeight, weight, namesWeight, fineSheet}
-
-unfoldable pub opened : Unit {0}
-unfolding opened-sheet opened-words fineClause fineEvent allClauses clauseWeight clausesWeight eventsWeight weight namesWeight fineSheet
-opened = tt

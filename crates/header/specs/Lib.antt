@@ -1,3 +1,0 @@
--- The definitions that the contracts of `header` cite.
-pub mod Size
-pub mod Bytes

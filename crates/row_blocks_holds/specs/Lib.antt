@@ -1,0 +1,2 @@
+-- The definitions that the contracts of `row_blocks_holds` cite.
+pub mod Row

@@ -1,0 +1,2 @@
+-- The definitions that the contracts of `row_blocks_pairs` cite.
+pub mod Added

@@ -1,0 +1,2 @@
+-- The definitions that the contracts of `row_names` cite.
+pub mod Read

@@ -1,0 +1,3 @@
+-- The definitions that the contracts of `row_sequence` cite.
+pub mod Named
+pub mod Part

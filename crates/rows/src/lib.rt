@@ -1,1 +1,0 @@
-// Row requests: pairs, holds and events' names. Definitions (specs/); the crates `pairs`, `holds` and `titles` have the code.

@@ -1,0 +1,2 @@
+-- The definitions that the contract of `run_feed_one` cites.
+pub mod One

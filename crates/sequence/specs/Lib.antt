@@ -1,3 +1,0 @@
--- The definitions that the contracts of `sequence` cite.
-pub mod Named
-pub mod Part

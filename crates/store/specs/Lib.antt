@@ -1,3 +1,0 @@
--- The definitions that the contracts of `store` cite.
-pub mod Stored
-pub mod Copied

@@ -1,0 +1,2 @@
+-- The proofs of `test_console`.
+pub mod Laws

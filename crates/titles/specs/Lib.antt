@@ -1,2 +1,0 @@
--- The definitions that the contracts of `titles` cite.
-pub mod Read

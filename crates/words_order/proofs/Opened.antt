@@ -1,7 +1,0 @@
--- Opens every definition of `words_order` and of what it leans on, for examples that compute. Assumes nothing.
-use Rattle.words.proofs.Opened.{opened as opened-words}
-use Rattle.words_order.specs.Read.{orderOf}
-
-unfoldable pub opened : Unit {0}
-unfolding opened-words orderOf
-opened = tt
