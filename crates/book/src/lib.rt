@@ -1,4 +1,4 @@
-// The book: its bytes, its checks, and fresh, feed, save and restore. Definitions (specs/) and their laws; the crates above it have the code.
+// Definitions only: the book's bytes, its checks, and fresh, feed, save and restore. The crates `book_*` have the code.
 
 // The lengths of a header, and of a hold or a record; and the most bars.
 pub const HEAD_LENGTH: usize = 96;

@@ -1,4 +1,4 @@
-// The checks of a hold and of a record in their 32 bytes.
+// Code only: the checks of a hold and of a record in their 32 bytes.
 use bar::LAST_ID;
 use book_field::double_at;
 use book_field::time_at;

@@ -1,4 +1,4 @@
-// The fields that a book's header, holds and records share: doubles, times and positions, read from bytes and written to them.
+// Code only: the fields that a book's header, holds and records share: doubles, times and positions, read from bytes and written to them.
 use bar::Instant;
 use bar::LAST_INSTANT;
 use bar::LAST_OFFSET;

@@ -1,1 +1,1 @@
-// A bar's signals and the event that they choose: definitions (specs/), laws and worked examples; no function.
+// Definitions only: a bar's signals, when a clause holds, and the event that they choose.

@@ -1,1 +1,1 @@
-// Demand 3: every list of feeds, saves and restores on one book. Definitions and a theorem about them (specs/, proofs/Theorem); no function.
+// Theorems only: demand 3, every list of feeds, saves, restores and requests on one book.

@@ -1,1 +1,1 @@
-// Demand 3 of the exported calls: a run of them, by their contracts alone, is a list of calls of `history`. Definitions and a theorem; no function.
+// Theorems only: demand 3 of the exported calls: a run of them, by their contracts alone, is a list of calls of `history`.

@@ -1,1 +1,1 @@
-// Lists by the numbers of their elements: definitions (specs/) and laws; no function.
+// Definitions only: lists by the numbers of their elements.

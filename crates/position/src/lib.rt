@@ -1,5 +1,5 @@
-// A position: the values of the plain machine. What a bar does to them, the rows that they give and the run program's text are
-// definitions (specs/); the crate `position_machine` has the step in code.
+// Definitions only: the plain machine, its values, the rows that they give and the run program's text. The crate `position_machine` has
+// the step in code.
 use bar::Bar;
 use bar::LocalTime;
 use bar::Time;

@@ -1,1 +1,1 @@
-// Row requests: pairs, holds and events' names. Definitions (specs/); the crates `row_pairs`, `row_holds` and `row_names` have the code.
+// Definitions only: requests for pair rows, hold rows and events' names. The crates `row_pairs`, `row_holds` and `row_names` have the code.

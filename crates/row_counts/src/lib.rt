@@ -1,4 +1,4 @@
-// How many hold rows and pair rows a book has.
+// Code only: how many hold rows and pair rows a book has.
 use book_check::Checked;
 use book_check::check_book;
 use book_header::Sized;

@@ -1,4 +1,4 @@
-// The run program: reads a sheet, a line `-` and bars from standard input, and prints what each bar and the book then say.
+// Code only: the run program: reads a sheet, a line `-` and bars from standard input, and prints what each bar and the book then say.
 use libc::STDIN_FILENO;
 use libc::STDOUT_FILENO;
 use run_text::INPUT_ROOM;

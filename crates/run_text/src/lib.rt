@@ -1,4 +1,4 @@
-// The run program's work: from the bytes of its input to the bytes that it prints.
+// Code only: the run program's work: from the bytes of its input to the bytes that it prints.
 use run_bars::INPUT_LIMIT;
 use run_bars::run_bars;
 use run_feed::Ran;

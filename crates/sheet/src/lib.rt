@@ -1,4 +1,4 @@
-// A position sheet: its definitions (specs/), limits, and what the code keeps of one that it read; no function.
+// Definitions only: what a position sheet says, its limits, and what the code keeps of one that it read.
 //
 // What is kept are numbers: places in the text, six numbers for each event and nine for each clause.
 

@@ -1,4 +1,4 @@
-// The codes that a sheet's values have in a table. Each value is noted once, in a wordbook of its own, in the order of first use.
+// Code only: the codes that a sheet's values have in a table. Each value is noted once, in a wordbook of its own, in the order of first use.
 use sheet::CLAUSE_NUMBERS;
 use signal::is_wild;
 use table_wordbook::Noted;

@@ -1,1 +1,1 @@
-// The bytes that compiling writes: definitions (specs/), and the theorem that they mean what they should; no function.
+// Theorems only: the bytes that compiling writes for a table's parts mean them.

@@ -1,1 +1,1 @@
-// What holds of every sheet that can be read: definitions and a theorem, no function.
+// Theorems only: every sheet that can be read is within a table's limits.

@@ -1,4 +1,4 @@
-// Books: runs a script of sheets, bars, saves, restores and rows. It keeps a text that lines build, a table, a book, an image and a row
+// Code only: runs a script of sheets, bars, saves, restores and rows. It keeps a text that lines build, a table, a book, an image and a row
 // buffer, zeros at first. Each line of standard input is written back, with ` = ` and the answer where it asks something.
 //
 //   +TEXT .TEXT *N|TEXT %N|BYTES   add to the text, as in the program `test_tables`

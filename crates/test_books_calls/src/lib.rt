@@ -1,4 +1,4 @@
-// What the program `test_books` asks of the calls that change a book: fresh, feed, save, restore. Each shows its number, its values and a
+// Code only: what the program `test_books` asks of the calls that change a book: fresh, feed, save, restore. Each shows its number, its values and a
 // fingerprint of the bytes that it may change.
 use book_feed::Feed;
 use book_feed::feed_bar;

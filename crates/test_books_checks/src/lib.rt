@@ -1,4 +1,4 @@
-// What the program `test_books` asks of the checks of a book: each byte is changed in turn, and what a call then says is asked.
+// Code only: what the program `test_books` asks of the checks of a book: each byte is changed in turn, and what a call then says is asked.
 use book_feed::Feed;
 use book_feed::feed_bar;
 use book_store::Stored;

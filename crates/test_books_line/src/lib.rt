@@ -1,4 +1,4 @@
-// Runs one line of the program `test_books` on what is lent of its buffers.
+// Code only: runs one line of the program `test_books` on what is lent of its buffers.
 use test_books_letters::grown;
 use test_books_letters::inspect;
 use test_console::ask;

@@ -1,4 +1,4 @@
-// What the program `test_books` asks of rows, and how it shows them: pairs, holds and events' names.
+// Code only: what the program `test_books` asks of rows, and how it shows them: pairs, holds and events' names.
 use bar::LocalTime;
 use double::Side;
 use position::HoldRow;

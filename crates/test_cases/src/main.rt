@@ -1,4 +1,4 @@
-// Cases: runs the stored set. For each case standard input has a line with its length in bytes and then the bytes, an input of the run
+// Code only: runs the stored set. For each case standard input has a line with its length in bytes and then the bytes, an input of the run
 // program; what the run program prints for each is printed, one behind another.
 use libc::STDIN_FILENO;
 use libc::STDOUT_FILENO;

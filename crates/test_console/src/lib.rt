@@ -1,3 +1,3 @@
-// What the programs that answer stored questions share: reading the fields of a line, and writing answers.
+// Code only: what the programs that answer stored questions share: reading the fields of a line, and writing answers.
 pub mod ask;
 pub mod show;

@@ -1,4 +1,4 @@
-// Tables: runs a script of sheets, tables and signals. It keeps a text that lines build and a table of 32,768 bytes, zeros at first.
+// Code only: runs a script of sheets, tables and signals. It keeps a text that lines build and a table of 32,768 bytes, zeros at first.
 // Each line of standard input is written back, with ` = ` and the answer where it asks something.
 //
 //   +TEXT          adds a line to the text               .TEXT         adds bytes to it

@@ -1,4 +1,4 @@
-// What is asked of a table by its meaning: whether its bytes are one, compiling a sheet into it, and which event a bar's signals choose.
+// Code only: what is asked of a table by its meaning: whether its bytes are one, compiling a sheet into it, and which event a bar's signals choose.
 use event_signals::SignalsRead;
 use event_signals::read_signals;
 use table_check::is_table;

@@ -1,4 +1,4 @@
-// Questions about numbers: a function for each kind takes the fields behind the letter, asks the leaf, and shows the answer.
+// Code only: questions about numbers: a function for each kind takes the fields behind the letter, asks the leaf, and shows the answer.
 use test_console::ask;
 use test_console::ask::field;
 use test_console::show;

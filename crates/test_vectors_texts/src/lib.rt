@@ -1,4 +1,4 @@
-// Questions about texts: a function for each kind takes the fields behind the letter, asks the leaf, and shows the answer.
+// Code only: questions about texts: a function for each kind takes the fields behind the letter, asks the leaf, and shows the answer.
 use position_book_answer_alone::operate_answer;
 use position_book_answer_alone::signal_answer;
 use signal::ValueRead;

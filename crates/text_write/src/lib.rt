@@ -1,4 +1,4 @@
-// Numbers written to lent bytes: decimal and hexadecimal.
+// Code only: numbers written to lent bytes: decimal and hexadecimal.
 use text::put_part;
 ghost use mathlib.Core.Path.{_≡_};
 ghost use Prim.Native.Nat.{_+_, _<_, _≤_};

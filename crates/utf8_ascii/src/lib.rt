@@ -1,4 +1,4 @@
-// Stretches of ASCII in a text.
+// Code only: stretches of ASCII in a text.
 ghost use mathlib.Core.Path.{_≡_};
 ghost use mathlib.Core.Bool.{true};
 ghost use Prim.Native.Nat.{_+_, _≤_};
