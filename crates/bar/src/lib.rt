@@ -30,6 +30,14 @@ pub struct Bar {
     pub price: f64,
 }
 
+// The four numbers of a bar as they are given, in range or not.
+pub struct BarNumbers {
+    pub id: i64,
+    pub instant: i64,
+    pub offset: i64,
+    pub price: f64,
+}
+
 impl Instant {
     // The wall clock's time at this instant, for an offset in seconds.
     pub fn local(self, offset: i32) -> LocalTime

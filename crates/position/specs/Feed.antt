@@ -9,7 +9,9 @@ use lib.Ieee.{Float}
 use lib.ListN.{length}
 use Rattle.text.specs.Answer.{Answer, Got, _>>=_, must}
 use Rattle.bar.specs.Bar.{barOf}
+use Rattle.bar.specs.declared.BarNumbers.{BarNumbers}
 use Rattle.bar.specs.declared.Time.{Time}
+use Rattle.bar_line.specs.Line.{lineOf}
 use Rattle.sheet.specs.Sheet.{Sheet}
 use Rattle.event.specs.Signals.{Line, readSignals}
 use Rattle.position.specs.State.{State}
@@ -24,6 +26,14 @@ pub record Input : Type 0 where
   pub offset : ℤ
   pub price : Float
   pub signals : List ℕ
+
+-- four numbers and the signals' text
+abbrev pub inputOf : BarNumbers → List ℕ → Input
+inputOf n signals = record { id = n .id; instant = n .instant; offset = n .offset; price = n .price; signals = signals }
+
+-- what reaches a feed by a line of the exchange's file: "Signals arrive as a second text."
+unfoldable pub lineInput : List ℕ → List ℕ → Answer Input
+lineInput line signals = lineOf line >>= λ n. Got (inputOf n signals)
 
 -- a feed's bar and signals, by its arguments alone: 11, then the signals' refusals
 unfoldable pub fedOf : Input → Answer Fed

@@ -13,10 +13,10 @@ use Rattle.text.proofs.Joined.{part-first}
 use Rattle.text.proofs.Laws.{part-take}
 use Rattle.text.proofs.Lines.{linesFrom, lines-next, lines-cut, lines-end}
 use Rattle.sheet.specs.Sheet.{Sheet}
-use Rattle.position.specs.Feed.{Input}
+use Rattle.bar.specs.declared.BarNumbers.{BarNumbers}
+use Rattle.position.specs.Feed.{Input, inputOf}
 use Rattle.position.specs.Run.{addSignal, inputLine, readInput}
-use Rattle.run_input.specs.Lines.{inputOf, LineAs}
-use Rattle.run_input.specs.declared.BarLine.{BarLine}
+use Rattle.run_input.specs.Lines.{LineAs}
 use Rattle.run_input.specs.declared.InputLine.the-variants as InputLine
 use Rattle.run_output.specs.Shown.{feedRoom}
 use Rattle.run_rows.specs.Rows.{Booked}
@@ -37,7 +37,7 @@ fed-waiting signals (Bar w) double f one = (fed-step f double one, one .line .sh
 fed-waiting {done = done} signals Nothing double f (e, g, h) = (rw (e, g, h, append-nil done) f, omega arith)
 
 -- a signal goes to the last bar
-add-last : (is : List Input) (b : BarLine) (signals l : List ℕ) → addSignal l (is ++ inputOf b signals ∷ []) ≡ Got (is ++ inputOf b (signals ++ l) ∷ [])
+add-last : (is : List Input) (b : BarNumbers) (signals l : List ℕ) → addSignal l (is ++ inputOf b signals ∷ []) ≡ Got (is ++ inputOf b (signals ++ l) ∷ [])
 unfolding addSignal
 add-last [] b signals l = refl
 add-last (i ∷ []) b signals l = refl
@@ -135,7 +135,7 @@ module _ {s table b signals out : List ℕ} {p : Progress} {from : ℕ} (k : Run
       took-number l = read-refused 3 (l .is before)
 
       -- a bar: the one that waited is fed, and it waits
-      pub took-bar : (w : BarLine) → LineAs (slice from to s) (InputLine.Bar w) → (next more : List ℕ) (r : ℕ)
+      pub took-bar : (w : BarNumbers) → LineAs (slice from to s) (InputLine.Bar w) → (next more : List ℕ) (r : ℕ)
           → FedWaiting table b next (p .waiting) (take (p .signals) signals) out more (p .at) r → length more ≡ length out
           → Running s table next signals more (record { waiting = Bar w; signals = 0; at = r }) (to + 1)
       took-bar w l next more r fed size =

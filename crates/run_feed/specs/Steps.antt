@@ -12,10 +12,9 @@ use Rattle.text.proofs.Lines.{linesFrom}
 use Rattle.sheet.specs.Sheet.{Sheet}
 use Rattle.table.specs.Table.{readTable}
 use Rattle.position.specs.State.{State, freshState}
-use Rattle.position.specs.Feed.{Input, feedState}
+use Rattle.position.specs.Feed.{Input, inputOf, feedState}
 use Rattle.position.specs.Cases.{stateAfter}
 use Rattle.position.specs.Run.{runBars, inputLimit, inputLine, Asked, readInput, line, feedLine, nextState}
-use Rattle.run_input.specs.Lines.{inputOf}
 use Rattle.run_output.specs.Shown.{feedRoom}
 use Rattle.run_feed_one.specs.One.{Held, FedOne}
 use Rattle.run_feed.specs.declared.Waiting.{Waiting}

@@ -1,6 +1,6 @@
 // The run program's bars: each line is read, and each bar is fed with its signals and printed.
+use bar::BarNumbers;
 use run_feed_one::feed_one;
-use run_input::BarLine;
 use run_input::InputLine;
 use run_input::read_line;
 use text::LF;
@@ -16,7 +16,7 @@ ghost use Rattle.run_feed.specs.Steps.{WaitingOk, FedWaiting, SignalAdde
 
 // The bar that waits for its signals, or none before the first bar.
 enum Waiting {
-    Bar(BarLine),
+    Bar(BarNumbers),
     Nothing,
 }
 

@@ -24,7 +24,7 @@ use Rattle.sheet.proofs.Fields.{Cut, last-field}
 use Rattle.position.specs.Run.{barLine}
 use Rattle.run_input.specs.Lines.{BarAs}
 use Rattle.run_input.specs.declared.InputLine.the-variants.{Bar, BadNumber}
-use Rattle.run_input.proofs.Numbers.{not-some}
+use Rattle.text_number.proofs.Whole.{not-some}
 
 -- bits that were read are sixteen digits
 bits-size : (l : List ℕ) {v : ℕ} → some v ≡ bitsOf l → length l ≡ 16

@@ -16,7 +16,8 @@ use Rattle.text.specs.Text.{LF, pipe, same, split, joined}
 use Rattle.text.proofs.Parts.{split-next, split-last}
 use Rattle.text.proofs.Same.{same-eq}
 use Rattle.text.proofs.Joined.{joined-more, joined-split}
-use Rattle.sheet.proofs.Fields.{Cut, cut}
+use Rattle.text.proofs.Cut.{cut}
+use Rattle.sheet.proofs.Fields.{Cut}
 use Rattle.position.specs.Feed.{Input}
 use Rattle.position.specs.Run.{barLine, addSignal, inputLine}
 use Rattle.run_input.specs.Lines.{lineDo, barDo, LineOk, BarOk, LineAs, BarAs}

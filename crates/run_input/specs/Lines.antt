@@ -10,13 +10,12 @@ use lib.ListN.{length, take, drop}
 use Rattle.text.specs.Answer.{Answer, Refused, Got}
 use Rattle.text.specs.Literal.{bytes}
 use Rattle.text.specs.Text.{LF, pipe, split}
-use Rattle.position.specs.Feed.{Input}
+use Rattle.position.specs.Feed.{Input, inputOf}
 use Rattle.position.specs.Run.{cut, ended, barLine, addSignal, inputLine}
 use Rattle.run_input.specs.declared.Dash.{Dash}
 use Rattle.run_input.specs.declared.Dash.the-variants.{At, Nowhere}
 use Rattle.run_input.specs.declared.Whole.{Whole}
 use Rattle.run_input.specs.declared.Whole.the-variants.{Is, Bad}
-use Rattle.run_input.specs.declared.BarLine.{BarLine}
 use Rattle.run_input.specs.declared.InputLine.{InputLine}
 use Rattle.run_input.specs.declared.InputLine.the-variants.{Bar, Signal, Malformed, BadNumber}
 
@@ -38,10 +37,6 @@ CutAs s (At p) = CutAt s p
 CutAs s Nowhere = cut (split LF s) ≡ none
 
 -- ---- a line
-
--- the bar as it reaches the feed, its signals to follow
-abbrev pub inputOf : BarLine → List ℕ → Input
-inputOf b signals = record { id = b .id; instant = b .instant; offset = b .offset; price = b .price; signals = signals }
 
 -- what the line l does, by what it says, to the bars before it; a signal's `key|value` stands behind its `S|`
 abbrev pub lineDo : List ℕ → List Input → InputLine → Answer (List Input)

@@ -1,4 +1,5 @@
 // The run program's input: where the line `-` stands, and what each line behind it says.
+use bar::BarNumbers;
 use le::Real;
 use le::real_of;
 use text::LF;
@@ -31,17 +32,9 @@ enum Whole {
     Bad,
 }
 
-// The numbers of a B line.
-pub struct BarLine {
-    pub id: i64,
-    pub instant: i64,
-    pub offset: i64,
-    pub price: f64,
-}
-
 // What a line says: a bar, one of its signals, or why it is refused.
 pub enum InputLine {
-    Bar(BarLine),
+    Bar(BarNumbers),
     Signal,
     Malformed,
     BadNumber,
@@ -127,7 +120,7 @@ fn read_bar(s: &[u8], from: usize, to: usize) -> InputLine
     let Number::Is(bits) = read_hex(s, c + 1, to) else {
         return InputLine::BadNumber;
     };
-    InputLine::Bar(BarLine {
+    InputLine::Bar(BarNumbers {
         id,
         instant,
         offset,

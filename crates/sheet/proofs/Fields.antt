@@ -1,7 +1,6 @@
 -- The fields of a line, one after another, and its tag. Assumes nothing.
-use Prim.Native.Nat.{ℕ, suc, _+_, _-_, _<_, _≤_}
+use Prim.Native.Nat.{ℕ, suc, _+_, _≤_}
 use native.Mathlib.Omega.{arith}
-use native.Mathlib.Decide.{decLt}
 use mathlib.Core.Path.{_≡_, _∙_, refl, ap}
 use mathlib.Core.Logic.{_≢_}
 use mathlib.Core.Bool.{Bool, true, false, cond, _&&_}
@@ -11,9 +10,10 @@ use lib.Dec.{eqb}
 use lib.ListN.{length, getD}
 use lib.Seq.{slice}
 use Rattle.text.specs.Text.{same, split, onto, pipe}
-use Rattle.text.specs.Read.{Part, FirstAt}
+use Rattle.text.specs.Read.{Part}
 use Rattle.text.proofs.Laws.{part-cons}
-use Rattle.text.proofs.Parts.{onto-count, split-some, split-next, split-last}
+use Rattle.text.proofs.Cut.{split-one, CutAt}
+use Rattle.text.proofs.Parts.{onto-count, split-some}
 use Rattle.sheet.specs.Places.{fieldsOf}
 
 -- ---- how many
@@ -27,36 +27,9 @@ split-few b (x ∷ t) = go (eqb x b) (split-few b t)
     go true h = omega arith
     go false h = omega (arith, onto-count x (split b t) (split-some b t))
 
--- one part is the whole text
-split-one : (b : ℕ) (l : List ℕ) → length (split b l) ≡ 1 → split b l ≡ l ∷ []
-unfolding split onto
-split-one b [] h = refl
-split-one b (x ∷ t) h = go (eqb x b) (split-one b t) h
-  where
-    go : (e : Bool) → (length (split b t) ≡ 1 → split b t ≡ t ∷ []) → length (cond e ([] ∷ split b t) (onto x (split b t))) ≡ 1
-        → cond e ([] ∷ split b t) (onto x (split b t)) ≡ (x ∷ t) ∷ []
-    go true ih g = absurd (omega (arith, split-some b t))
-    go false ih g = ap (onto x) (ih (omega (arith, onto-count x (split b t) (split-some b t))))
-
 -- the field that ends at r, and n fields behind it
-pub record Cut (s : List ℕ) (from to r n : ℕ) : Type 0 where
-  pub low : from ≤ r
-  pub high : r < to
-  pub within : to ≤ length s
-  pub fields : fieldsOf s from to ≡ slice from r s ∷ fieldsOf s (r + 1) to
-  pub left : length (fieldsOf s (r + 1) to) ≡ n
-
-pub cut : {s : List ℕ} {from to r n : ℕ} → Part s from to → FirstAt s from to pipe r → length (fieldsOf s from to) ≡ suc n → 1 ≤ n → Cut s from to r n
-cut {s} {from} {to} {r} {n} p f h k =
-    let more : r < to = inner in
-    let e = split-next p f more in
-    record { low = f .low; high = more; within = p .within; fields = e; left = omega (arith, ap length e) }
-  where
-    inner : r < to
-    inner = elim (decLt r to) [ yes l ↦ l | no l ↦ absurd (omega (arith, ap length (split-last p f (omega (arith, f .high))))) ]
-
-pub cut-rest : {s : List ℕ} {from to r n : ℕ} → Cut s from to r n → Part s (r + 1) to
-cut-rest c = record { order = omega (arith, c .high); within = c .within }
+abbrev pub Cut : List ℕ → ℕ → ℕ → ℕ → ℕ → Type 0
+Cut s from to r n = CutAt pipe s from to r n
 
 pub last-field : (s : List ℕ) (from to : ℕ) → length (fieldsOf s from to) ≡ 1 → fieldsOf s from to ≡ slice from to s ∷ []
 last-field s from to h = split-one pipe (slice from to s) h

@@ -7,6 +7,7 @@ pub mod Conditions
 pub mod Tested
 pub mod Every
 pub mod Parts
+pub mod Cut
 pub mod Joined
 pub mod Lines
 pub mod Put

@@ -7,7 +7,8 @@ use lib.Seq.{slice}
 use borrow.Author.Needs.{needs}
 use Rattle.text.specs.Number.{digitsTo, plus, signedTo}
 use Rattle.text_number.specs.Read.{numberOf}
-use Rattle.sheet.proofs.Fields.{Cut, cut, cut-rest}
+use Rattle.text.proofs.Cut.{cut, cut-rest}
+use Rattle.sheet.proofs.Fields.{Cut}
 use Rattle.run_input.specs.Lines.{wholeOf}
 use Rattle.run_input.proofs.Fields.{bad-id, bad-instant, bad-offset, bad-price, bar-is}
 use Rattle.run_input.proofs.read_bar.Statement.{statement}

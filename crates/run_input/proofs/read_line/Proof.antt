@@ -1,7 +1,7 @@
 -- A tag, and as many fields as it asks for. Assumes nothing.
 use mathlib.Core.Path.{_∙_, sym}
 use borrow.Author.Needs.{needs}
-use Rattle.sheet.proofs.Fields.{cut-rest}
+use Rattle.text.proofs.Cut.{cut-rest}
 use Rattle.run_input.proofs.Tags.{line-count, behind-tag, line-bar, line-signal, line-more, line-other}
 use Rattle.run_input.proofs.read_line.Statement.{statement}
 use Rattle.run_input.proofs.read_line.Tie as tie

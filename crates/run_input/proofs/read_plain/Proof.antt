@@ -4,7 +4,7 @@ use mathlib.Core.Path.{_≡_, _∙_, sym, ap}
 use lib.Seq.{slice}
 use Rattle.text.specs.Number.{digitsTo, plus}
 use Rattle.text_number.specs.Read.{numberOf}
-use Rattle.run_input.proofs.Numbers.{plain-fits, plain-is}
+use Rattle.text_number.proofs.Whole.{plain-fits, plain-is}
 use borrow.Author.Needs.{needs}
 use Rattle.run_input.proofs.read_plain.Statement.{statement}
 use Rattle.run_input.proofs.read_plain.Tie as tie

@@ -5,7 +5,8 @@ use mathlib.Core.Path.{_≡_, _∙_, sym, ap}
 use lib.Seq.{slice}
 use Rattle.text.specs.Number.{digitsTo, negated}
 use Rattle.text_number.specs.Read.{numberOf}
-use Rattle.run_input.proofs.Numbers.{plain-fits, minus-fits, minus-is, signed-none, signed-plain, signed-minus}
+use Rattle.text_number.proofs.Whole.{plain-fits}
+use Rattle.run_input.proofs.Numbers.{minus-fits, minus-is, signed-none, signed-plain, signed-minus}
 use borrow.Author.Needs.{needs}
 use Rattle.run_input.proofs.read_signed.Statement.{statement}
 use Rattle.run_input.proofs.read_signed.Tie as tie

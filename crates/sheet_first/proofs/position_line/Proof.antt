@@ -5,7 +5,8 @@ use mathlib.Core.Path.{_≡_, _∙_, sym}
 use lib.ListN.{length}
 use borrow.Author.Needs.{needs}
 use Rattle.sheet.specs.Places.{fieldsOf}
-use Rattle.sheet.proofs.Fields.{Cut, cut, cut-rest}
+use Rattle.text.proofs.Cut.{cut, cut-rest}
+use Rattle.sheet.proofs.Fields.{Cut}
 use Rattle.sheet_first.proofs.FirstLine.{first-count, first-room, first-rest, first-other, first-long, six-left, name-long, symbol-long, names-are, position-is}
 use Rattle.sheet_first.proofs.position_line.Statement.{statement}
 use Rattle.sheet_first.proofs.position_line.Tie as tie

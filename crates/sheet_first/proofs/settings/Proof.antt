@@ -6,7 +6,8 @@ use mathlib.Core.Option.{some}
 use borrow.Author.Needs.{needs}
 use Rattle.text_number.specs.Read.{numberOf}
 use Rattle.sheet.specs.Sheet.{intervalLimit, timeoutLimit, stopLimit}
-use Rattle.sheet.proofs.Fields.{Cut, cut, cut-rest}
+use Rattle.text.proofs.Cut.{cut, cut-rest}
+use Rattle.sheet.proofs.Fields.{Cut}
 use Rattle.sheet_first.proofs.FirstLine.{fieldOf, names-rest, bad-interval, bad-timeout, bad-stop, bad-t0, settings-are}
 use Rattle.sheet_first.proofs.settings.Statement.{statement}
 use Rattle.sheet_first.proofs.settings.Tie as tie

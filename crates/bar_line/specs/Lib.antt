@@ -1,0 +1,2 @@
+-- The definitions of a line of the exchange's comma file.
+pub mod Line

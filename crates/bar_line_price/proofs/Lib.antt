@@ -1,0 +1,3 @@
+-- The laws of a line's price.
+pub mod Digits
+pub mod Form

@@ -1,0 +1,2 @@
+-- What the contracts of `bar_line_price` cite.
+pub mod Read

@@ -1,0 +1,2 @@
+-- The laws of a line that is read.
+pub mod Line

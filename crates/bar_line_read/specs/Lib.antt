@@ -1,0 +1,2 @@
+-- What the contract of `bar_line_read` cites.
+pub mod Read

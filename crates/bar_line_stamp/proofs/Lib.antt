@@ -1,0 +1,3 @@
+-- The laws of a line's time.
+mod Steps
+mod Times

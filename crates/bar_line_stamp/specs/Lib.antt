@@ -1,0 +1,2 @@
+-- What the contracts of `bar_line_stamp` cite.
+pub mod Read
