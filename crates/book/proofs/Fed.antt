@@ -19,12 +19,12 @@ use Rattle.sheet.specs.Sheet.{Sheet}
 use Rattle.table.specs.Layout.{tableLength}
 use Rattle.table.specs.Table.{readTable}
 use Rattle.position.specs.Step.{Going, Fed, stepHead, settle, newHold}
-use Rattle.position.specs.Feed.{Input, fedOf, admitted, Accepted}
+use Rattle.position.specs.Feed.{Input, lineInput, fedOf, admitted, Accepted}
 use Rattle.position_laws.proofs.OneRecord.{one-record}
 use Rattle.position_laws.proofs.Reach.{admitted-got}
 use Rattle.book.specs.Layout.{capacity, headBytes, headOf, holdBytes, holdOf, recordsBytes, holdPlace, recordPlace}
 use Rattle.book.specs.Check.{countsOk, headerOk}
-use Rattle.book.specs.Calls.{sized, settled, fed, feedDo}
+use Rattle.book.specs.Calls.{sized, settled, fed, feedOn, feedDo, feedLineDo}
 use Rattle.book.proofs.Lengths.{head-length, hold-length, records-length, capacity-range}
 
 -- ---- the bytes
@@ -124,8 +124,13 @@ records-first : (c : ℕ) (b : List ℕ) → headerOk c b ≡ true → u32 b 4 �
 unfolding headerOk countsOk
 records-first c b e = leb-true (u32 b 4) (u32 b 0) (fact _ (both (countsOk c b) _ e) 4)
 
+-- a line's feed is the feed of the numbers that it says
+pub line-feed : (t b line signals : List ℕ) (i : Input) → lineInput line signals ≡ Got i → feedLineDo t b line signals ≡ feedDo t b i
+unfolding feedLineDo feedDo
+line-feed t b line signals i e = ap (feedOn t b) e
+
 pub took : (t b : List ℕ) (i : Input) (a : Accepted (List ℕ)) → feedDo t b i ≡ Got a → Took b i a
-unfolding feedDo
+unfolding feedDo feedOn
 took t b i a e =
     let size = got-from (sized t b) _ a e in
     let c = size .0 in

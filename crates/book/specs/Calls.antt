@@ -13,7 +13,7 @@ use Rattle.sheet.specs.Sheet.{Sheet}
 use Rattle.table.specs.Layout.{tableLength}
 use Rattle.table.specs.Table.{readTable}
 use Rattle.position.specs.Step.{Going, stepHead, settle, newHold}
-use Rattle.position.specs.Feed.{Input, admitted, Accepted, reported}
+use Rattle.position.specs.Feed.{Input, lineInput, admitted, Accepted, reported}
 use Rattle.book.specs.Layout.{capacity, headBytes, headOf, holdBytes, holdOf, recordsBytes, freshBook, holdPlace, recordPlace}
 use Rattle.book.specs.Check.{headerOk, fullOk}
 
@@ -55,15 +55,24 @@ fed c bar g b =
     let records = patch holds (recordPlace c rs) (recordsBytes (g .wrote)) in
     patch records 0 (headBytes c (hs + 1) (rs + length (g .wrote)) (g .head))
 
--- "A feed: 8, 9, 10, 11, signals (..), 13, 14." "Feeds make the header check".
-unfoldable pub feedDo : List ℕ → List ℕ → Input → Answer (Accepted (List ℕ))
-feedDo table b i = do
+-- "A feed: 8, 9, 10, .., 11, signals (..), 13, 14." "Feeds make the header check". What reaches it is asked for behind 10.
+unfoldable pub feedOn : List ℕ → List ℕ → Answer Input → Answer (Accepted (List ℕ))
+feedOn table b input = do
   c ← sized table b
   s ← readTable table
   _ ← must 10 (headerOk c b)
+  i ← input
   f ← admitted c (u32 b 0) (headOf b .end) i
   let g = stepHead s (f .bar) (f .signals) (headOf b)
   Got (record { after = fed c (f .bar) g b; report = reported s (f .signals) g })
+
+-- a feed of four numbers and the signals' text
+unfoldable pub feedDo : List ℕ → List ℕ → Input → Answer (Accepted (List ℕ))
+feedDo table b i = feedOn table b (Got i)
+
+-- a feed of the exchange's line and the signals' text: "16 .., checked after 10; 17 .., checked after 16 and before 11"
+unfoldable pub feedLineDo : List ℕ → List ℕ → List ℕ → List ℕ → Answer (Accepted (List ℕ))
+feedLineDo table b line signals = feedOn table b (lineInput line signals)
 
 -- the book at exit
 abbrev pub feedBytes : List ℕ → Answer (Accepted (List ℕ)) → List ℕ

@@ -3,10 +3,10 @@ use Prim.Native.Nat.{ℕ}
 use mathlib.Core.Path.{_≡_}
 use mathlib.Core.List.{List}
 use Rattle.text.specs.Answer.{Answer, Refused, Got}
-use Rattle.position.specs.Feed.{Input, Accepted}
-use Rattle.book.specs.Calls.{feedDo, feedBytes}
+use Rattle.position.specs.Feed.{Accepted}
+use Rattle.book.specs.Calls.{feedBytes}
 use Rattle.book_feed.specs.declared.Feed.{Feed}
-use Rattle.book_feed.specs.declared.Feed.the-variants.{Done, WrongLength, NotTable, NotBook, BadBar, PastLimit, NotUtf8, Malformed, Twice, Late, Full}
+use Rattle.book_feed.specs.declared.Feed.the-variants.{Done, WrongLength, NotTable, NotBook, WrongLine, LongPrice, BadBar, PastLimit, NotUtf8, Malformed, Twice, Late, Full}
 
 -- the number of each answer; where it is done, what it says, with the bytes at exit
 abbrev pub feedOf : List ℕ → Feed → Answer (Accepted (List ℕ))
@@ -21,8 +21,10 @@ feedOf after BadBar = Refused 11
 feedOf after Twice = Refused 12
 feedOf after Late = Refused 13
 feedOf after Full = Refused 14
+feedOf after WrongLine = Refused 16
+feedOf after LongPrice = Refused 17
 
--- a feed of i into a book whose bytes were `before`
-pub record FeedAs (t before after : List ℕ) (i : Input) (r : Feed) : Type 0 where
-  pub is : feedOf after r ≡ feedDo t before i
-  pub bytes : after ≡ feedBytes before (feedDo t before i)
+-- r and the bytes at exit, which were `before`, are as the answer a has them
+pub record FeedAs (a : Answer (Accepted (List ℕ))) (before after : List ℕ) (r : Feed) : Type 0 where
+  pub is : feedOf after r ≡ a
+  pub bytes : after ≡ feedBytes before a

@@ -1,10 +1,11 @@
 -- No call says 0 unless it is done; and what each then leaves. Assumes nothing.
-use Prim.Native.Nat.{ℕ}
+use Prim.Native.Nat.{ℕ, suc}
 use mathlib.Core.Bool.{Bool, true, false, cond, _||_}
 use mathlib.Core.List.{List}
 use mathlib.Core.Option.{Option, none, some}
 use mathlib.Core.Path.{_≡_, refl}
-use lib.Dec.{ltb, eqb}
+use lib.Dec.{T, ltb, eqb}
+use lib.Ieee.{binary64, fits}
 use lib.ListN.{length}
 use lib.Signed.{ltZ}
 use Rattle.le.specs.Field.{u32}
@@ -23,10 +24,11 @@ use Rattle.table.specs.Layout.{tableLength}
 use Rattle.table.specs.Compile.{compileDo}
 use Rattle.table.specs.Table.{readTable}
 use Rattle.position.specs.Step.{Fed}
-use Rattle.position.specs.Feed.{Input, fedOf, admitted}
+use Rattle.bar_line.proofs.Given.{line-gives as bar-line-gives}
+use Rattle.position.specs.Feed.{Input, lineInput, fedOf, admitted, Accepted}
 use Rattle.book.specs.Layout.{capacity, headOf, freshBook}
 use Rattle.book.specs.Check.{headerOk}
-use Rattle.book.specs.Calls.{sized, checked, freshDo, feedDo, saveDo, restoreDo}
+use Rattle.book.specs.Calls.{sized, checked, freshDo, feedOn, feedDo, feedLineDo, saveDo, restoreDo}
 
 -- ---- what the calls read
 
@@ -106,8 +108,8 @@ fresh-gives b = go (capacity b) refl
     go (some c) e = gives (c, e, refl)
 
 pub feed-gives : (t b : List ℕ) (i : Input) → Gives Any (feedDo t b i)
-unfolding feedDo
-feed-gives t b i = search (loud, table-gives, admitted-gives)
+unfolding feedDo feedOn
+feed-gives t b i = search (loud, table-gives, admitted-gives) depth 8
 
 -- an admitted bar is that of the arguments
 admitted-fed : (c holds : ℕ) (end : Time) (i : Input) → Gives (λ f. fedOf i ≡ Got f) (admitted c holds end i)
@@ -127,12 +129,40 @@ sized-gives t b = then-gives (must-gives 8 (eqb (length t) tableLength) tt) (λ 
 
 -- so the arguments of an accepted feed say a bar and its signals
 pub feed-fed : (t b : List ℕ) (i : Input) → Gives (λ x. (f : Fed) × (fedOf i ≡ Got f)) (feedDo t b i)
-unfolding feedDo
+unfolding feedDo feedOn
 feed-fed t b i =
     then-gives {a = sized t b} (sized-gives t b)
     (λ c. then-gives (table-gives t)
     (λ s. then-gives (must-gives 10 (headerOk c b) tt)
     (λ _. then-with (admitted-fed c (u32 b 0) (headOf b .end) i) (λ f e. gives (f, e)))))
+
+-- ---- a line's feed is refused with the line, or is the feed of the numbers that it says
+
+input-gives : (line signals : List ℕ) → Gives (λ i. T (fits binary64 (i .price))) (lineInput line signals)
+unfolding lineInput
+input-gives line signals = then-with (bar-line-gives line) (λ n fit. gives fit)
+
+unread-gives : (t b : List ℕ) (n : ℕ) → Gives (λ x. ⊥) (feedOn t b (Refused (suc n)))
+unfolding feedOn
+unread-gives t b n =
+    then-gives {a = sized t b} (sized-gives t b)
+    (λ c. then-gives (table-gives t) (λ s. then-gives (must-gives 10 (headerOk c b) tt) (λ _. refuses)))
+
+-- so what holds of a refusal, and of the feed of each four numbers with a double, holds of a line's feed
+pub of-line : (P : Answer Input → Answer (Accepted (List ℕ)) → Type 0) (t b line signals : List ℕ)
+    → ((n m : ℕ) → P (Refused n) (Refused (suc m)))
+    → ((i : Input) → T (fits binary64 (i .price)) → P (Got i) (feedDo t b i))
+    → P (lineInput line signals) (feedLineDo t b line signals)
+unfolding feedDo feedLineDo
+of-line P t b line signals refused done = go (input-gives line signals)
+  where
+    unread : (n : ℕ) {x : Answer (Accepted (List ℕ))} → Gives (λ x. ⊥) x → P (Refused n) x
+    unread k (refuses {n}) = refused k n
+    unread k (gives e) = absurd e
+
+    go : {a : Answer Input} → Gives (λ i. T (fits binary64 (i .price))) a → P a (feedOn t b a)
+    go (refuses {n}) = unread (suc n) (unread-gives t b n)
+    go (gives {x} double) = done x double
 
 checked-gives : (t : List ℕ) (c : ℕ) (b : List ℕ) → Gives Any (checked t c b)
 unfolding checked

@@ -18,7 +18,7 @@ use Rattle.book.specs.Layout.{encode}
 use Rattle.book.specs.Calls.{freshDo}
 use Rattle.row.specs.Calls.{pairDo, pairBytes, holdDo}
 use Rattle.row_blocks.specs.Blocks.{countsDo}
-use Rattle.history.specs.Calls.{Call, Fresh, Feed, Save, Restore, Ask, PairRow, HoldRow, PairRows, HoldRows, Counts, EventName, bookAfter, doneFrom}
+use Rattle.history.specs.Calls.{Call, Fresh, Feed, FeedLine, Save, Restore, Ask, PairRow, HoldRow, PairRows, HoldRows, Counts, EventName, bookAfter, doneFrom}
 use Rattle.history.specs.Survivors.{Past, Unknown, Known, survivors, AllOurs}
 use Rattle.history.proofs.Opened.{opened}
 
@@ -138,6 +138,31 @@ equal = bookAfter start twice
 named : (left (twice ++ Restore soy equal 0 ∷ []) ≡ 2 ∷ []) × (left (twice ++ Restore soy equal 1 ∷ []) ≡ 1 ∷ [])
 unfolding opened soy start buffer twice equal
 named = (refl, refl)
+
+-- ---- bars by lines: 1970 has no 29 February (16), seven digits behind the point (17), before 1970 UTC (11), the instant of the bar before (13)
+
+unfoldable lines : List Call
+lines =
+    FeedLine soy (bytes "1,1970-01-02 00:00:01+00:00,100") up
+    ∷ FeedLine soy (bytes "2,1970-02-29 00:00:00+00:00,100") up
+    ∷ FeedLine soy (bytes "2,1970-02-28 00:00:00+00:00,1.0000000") up
+    ∷ FeedLine soy (bytes "2,1970-01-01 00:00:00+00:01,100") up
+    ∷ FeedLine soy (bytes "2,1970-01-02 08:00:01+08:00,100") up
+    ∷ FeedLine soy (bytes "3,1970-01-03 00:00:00+00:00,100.00") down
+    ∷ []
+
+lines-said : map (λ d. d .answer .number) (doneFrom start lines) ≡ 0 ∷ 16 ∷ 17 ∷ 11 ∷ 13 ∷ 0 ∷ []
+unfolding opened soy start lines
+lines-said = refl
+
+lines-survived : left lines ≡ 1 ∷ 3 ∷ []
+unfolding opened soy start lines
+lines-survived = refl
+
+-- the bars that survive are those of the lines, so the book is the one that their numbers give
+lines-kept : same (bookAfter start lines) (bookAfter start (feed soy 1 86401000000 up ∷ feed soy 3 172800000000 down ∷ [])) ≡ true
+unfolding opened soy start lines
+lines-kept = refl
 
 -- ---- an image that no save of the list left: nothing is claimed, until a fresh or a restore of one that a save left
 

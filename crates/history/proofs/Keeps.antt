@@ -24,11 +24,11 @@ use Rattle.book.specs.Layout.{encode}
 use Rattle.book.specs.Calls.{feedDo, feedBytes}
 use Rattle.book.proofs.Feeds.{Ready, feed-is}
 use Rattle.book.proofs.Ready.{ready}
-use Rattle.history.specs.Calls.{Fresh, Feed, Save, Restore, answered, after}
+use Rattle.history.specs.Calls.{Fresh, Feed, FeedLine, Save, Restore, answered, after}
 use Rattle.history.specs.Survivors.{Past, Unknown, Known, Saved, Ledger, add, savedAs, ifDone, survive}
 use Rattle.history.proofs.Invariant.{BookOf, Follows, SavedRight, Good, saved-follows}
 use Rattle.history.proofs.Booked.{cleared, stepped}
-use Rattle.history.proofs.Answered.{Cleared, fresh-gives, feed-gives, save-gives, restore-gives}
+use Rattle.history.proofs.Answered.{Cleared, fresh-gives, feed-gives, of-line, save-gives, restore-gives}
 
 -- ---- save and restore
 
@@ -104,3 +104,9 @@ module _ (table : List ℕ) (s : Sheet) (meant : readTable table ≡ Got s) wher
             → Good s (ifDone (number a) (record { past = cond (same t table) (add (l .past) (fedOf i)) Unknown; saves = l .saves }) l) (feedBytes b a)
         go e refuses = good
         go e (gives {x} u) = record { book = followed (l .past) (same t table) x refl (good .book) e; saves = good .saves }
+
+    pub line-keeps : (t line signals : List ℕ)
+        → Good s (survive table l (FeedLine t line signals) (answered b (FeedLine t line signals))) (after b (FeedLine t line signals))
+    line-keeps t line signals =
+        of-line (λ a x. Good s (ifDone (number x) (record { past = cond (same t table) (add (l .past) (a >>= fedOf)) Unknown; saves = l .saves }) l) (feedBytes b x))
+        t b line signals (λ n m. good) (λ i double. feed-keeps t i double)

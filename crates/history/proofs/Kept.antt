@@ -20,7 +20,7 @@ use Rattle.position_laws.proofs.Sound.{Sound}
 use Rattle.position_laws.proofs.Steps.{holds-count, records-few}
 use Rattle.book.specs.Layout.{capacity, encode}
 use Rattle.book.specs.Calls.{checked}
-use Rattle.book.proofs.Feeds.{feed-is}
+use Rattle.book.proofs.Feeds.{feed-is, line-is}
 use Rattle.book.proofs.Stored.{bars-are, sized-is, passes, save-is, restore-is}
 use Rattle.book.proofs.Parts.{holds-count as H-is, records-count as R-is}
 use Rattle.book.proofs.Passes.{Room, holds-small, records-small}
@@ -83,6 +83,7 @@ module _ (table : List ℕ) (s : Sheet) (meant : readTable table ≡ Got s) wher
         records = R-is c st (records-small s c st sound room);
         few = records-few s fs;
         feeds = λ i. feed-is table s c st i (ready table s c st (table-length table s meant) meant sound room);
+        feedLines = λ line signals. line-is table s c st line signals (ready table s c st (table-length table s meant) meant sound room);
         saves = save-is table s meant c st sound room;
         restores = restore-is table s meant c st sound room;
         pairsRead = pair-is c st sound room;

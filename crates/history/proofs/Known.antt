@@ -7,15 +7,15 @@ use mathlib.Core.Path.{_≡_, refl, ap, _∙_}
 use mathlib.Mathlib.Data.List.Defs.{Forall}
 use mathlib.Mathlib.Data.List.Basic.{forall-cons}
 use lib.ListN.{getElem?}
-use Rattle.text.specs.Answer.{Answer, Got, number}
+use Rattle.text.specs.Answer.{Answer, Got, _>>=_, number}
 use Rattle.text.specs.Text.{same}
 use Rattle.text.proofs.Same.{same-refl}
 use Rattle.text.proofs.Refusals.{Gives, refuses, gives}
 use Rattle.position.specs.Step.{Fed}
 use Rattle.position.specs.Feed.{Input, Accepted, fedOf}
-use Rattle.history.specs.Calls.{Call, Fresh, Feed, Save, Restore, Ask, answered, after, doneFrom}
+use Rattle.history.specs.Calls.{Call, Fresh, Feed, FeedLine, Save, Restore, Ask, answered, after, doneFrom}
 use Rattle.history.specs.Survivors.{Past, Unknown, Known, Saved, Ledger, add, savedAs, ifDone, survive, ledgerFrom, images, Ours, AllOurs}
-use Rattle.history.proofs.Answered.{feed-fed}
+use Rattle.history.proofs.Answered.{feed-fed, of-line}
 
 abbrev pub IsKnown : Past → Type 0
 IsKnown Unknown = ⊥
@@ -54,6 +54,12 @@ module _ (table b : List ℕ) (l : Ledger) (is : List (List ℕ)) (k : Sure l is
       go refuses h = k
       go (gives f) h = record { past = rw (h refl, same-refl table) (add-known (l .past) (fedOf i) (f .0) (f .1) (k .past)); saves = k .saves; left = k .left }
 
+  line-sure : (t line signals : List ℕ) → Ours table is (FeedLine t line signals) (answered b (FeedLine t line signals))
+      → Sure (survive table l (FeedLine t line signals) (answered b (FeedLine t line signals))) is
+  line-sure t line signals =
+      of-line (λ a x. (number x ≡ 0 → t ≡ table) → Sure (ifDone (number x) (record { past = cond (same t table) (add (l .past) (a >>= fedOf)) Unknown; saves = l .saves }) l) is)
+      t b line signals (λ n m h. k) (λ i double. feed-sure t i)
+
   -- with other bars, at the same saves
   at : (n : ℕ) (p : Past) → (n ≡ 0 → IsKnown p) → Sure (ifDone n (record { past = p; saves = l .saves }) l) is
   at zero p h = record { past = h refl; saves = k .saves; left = k .left }
@@ -72,6 +78,7 @@ module _ (table b : List ℕ) (l : Ledger) (is : List (List ℕ)) (k : Sure l is
   call-sure : (c : Call) → Ours table is c (answered b c) → Sure (survive table l c (answered b c)) (images is c (answered b c))
   call-sure Fresh ours = at (answered b Fresh .number) (Known []) (λ e. tt)
   call-sure (Feed t i) ours = feed-sure t i ours
+  call-sure (FeedLine t line signals) ours = line-sure t line signals ours
   call-sure (Save t image) ours = noted (answered b (Save t image) .number) (answered b (Save t image) .image)
   call-sure (Restore t image j) ours =
       at (answered b (Restore t image j) .number) (savedAs j image (l .saves))

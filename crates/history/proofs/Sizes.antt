@@ -9,9 +9,10 @@ use lib.ListN.{length}
 use Rattle.text.specs.Answer.{Answer, Refused, Got, gotOr}
 use Rattle.position.specs.Feed.{Accepted}
 use Rattle.book.specs.Layout.{barLimit, capacity}
-use Rattle.book.specs.Calls.{freshDo, feedDo, feedBytes, restoreDo}
+use Rattle.book.specs.Calls.{freshDo, feedDo, feedLineDo, feedBytes, restoreDo}
 use Rattle.book.proofs.Sizes.{fresh-size, feed-size, restore-size}
-use Rattle.history.specs.Calls.{Call, Fresh, Feed, Save, Restore, Ask, after, bookAfter}
+use Rattle.history.proofs.Answered.{of-line}
+use Rattle.history.specs.Calls.{Call, Fresh, Feed, FeedLine, Save, Restore, Ask, after, bookAfter}
 
 -- a refused call leaves the book, and an accepted one a book as long
 left : (b : List ℕ) (a : Answer (List ℕ)) → ((x : List ℕ) → a ≡ Got x → length x ≡ length b) → length (gotOr b a) ≡ length b
@@ -25,6 +26,8 @@ left-fed b (Got x) h = h x refl
 after-size : (b : List ℕ) (c : Call) → length (after b c) ≡ length b
 after-size b Fresh = left b (freshDo b) (fresh-size b)
 after-size b (Feed t i) = left-fed b (feedDo t b i) (feed-size t b i)
+after-size b (FeedLine t line signals) =
+    of-line (λ a x. length (feedBytes b x) ≡ length b) t b line signals (λ n m. refl) (λ i double. left-fed b (feedDo t b i) (feed-size t b i))
 after-size b (Save t image) = refl
 after-size b (Restore t image k) = left b (restoreDo t b image) (restore-size t b image)
 after-size b (Ask r) = refl

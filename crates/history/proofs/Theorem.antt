@@ -16,11 +16,11 @@ use Rattle.table.specs.Table.{readTable}
 use Rattle.table.specs.Compile.{Means, Compiled}
 use Rattle.book.specs.Calls.{freshDo}
 use Rattle.book.proofs.Sizes.{fresh-size}
-use Rattle.history.specs.Calls.{Call, Fresh, Feed, Save, Restore, Ask, answered, after, bookAfter, doneFrom}
+use Rattle.history.specs.Calls.{Call, Fresh, Feed, FeedLine, Save, Restore, Ask, answered, after, bookAfter, doneFrom}
 use Rattle.history.specs.Survivors.{Known, Ledger, survive, ledgerFrom, survivors}
 use Rattle.history.specs.Demand3.{Claimed, isDouble, doubles, Demand3}
 use Rattle.history.proofs.Invariant.{Follows, Good}
-use Rattle.history.proofs.Keeps.{fresh-book, fresh-keeps, feed-keeps, save-keeps, restore-keeps}
+use Rattle.history.proofs.Keeps.{fresh-book, fresh-keeps, feed-keeps, line-keeps, save-keeps, restore-keeps}
 use Rattle.history.proofs.Kept.{kept}
 use Rattle.history.proofs.Answered.{Cleared, fresh-gives}
 use Rattle.history.proofs.Known.{known-is, stays-known}
@@ -30,6 +30,7 @@ module _ (table : List ℕ) (s : Sheet) (meant : readTable table ≡ Got s) wher
   keeps : (l : Ledger) (b : List ℕ) (c : Call) → T (isDouble c) → Good s l b → Good s (survive table l c (answered b c)) (after b c)
   keeps l b Fresh double good = fresh-keeps table s meant l b good
   keeps l b (Feed t i) double good = feed-keeps table s meant l b good t i double
+  keeps l b (FeedLine t line signals) double good = line-keeps table s meant l b good t line signals
   keeps l b (Save t image) double good = save-keeps table s l b good t image
   keeps l b (Restore t image k) double good = restore-keeps table s l b good t image k
   keeps l b (Ask r) double good = good

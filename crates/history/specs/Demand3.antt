@@ -15,14 +15,14 @@ use Rattle.double.specs.Double.{yieldOk}
 use Rattle.sheet.specs.Sheet.{Sheet, nameLimit}
 use Rattle.table.specs.Compile.{compileDo, Compiled}
 use Rattle.position.specs.Step.{Fed, plain}
-use Rattle.position.specs.Feed.{Input, feedState}
+use Rattle.position.specs.Feed.{Input, lineInput, feedState}
 use Rattle.position.specs.Rows.{Pair, pairsOf, holdRows}
 use Rattle.position.specs.declared.HoldRow.{HoldRow}
 use Rattle.book.specs.Layout.{capacity, encode}
-use Rattle.book.specs.Calls.{freshDo, feedDo, saveDo, restoreDo}
+use Rattle.book.specs.Calls.{freshDo, feedDo, feedLineDo, saveDo, restoreDo}
 use Rattle.row.specs.Calls.{rowBuffer, rowAt, pairDo, holdDo, eventNameDo}
 use Rattle.row_blocks.specs.Blocks.{holdRowBytes, holdRowLength, pairRowBytes, pairRowLimit, blockFrom, holdBlockDo, pairBlockDo, countsDo}
-use Rattle.history.specs.Calls.{Call, Fresh, Feed, Save, Restore, Ask, bookAfter, Done, doneFrom}
+use Rattle.history.specs.Calls.{Call, Fresh, Feed, FeedLine, Save, Restore, Ask, bookAfter, Done, doneFrom}
 use Rattle.history.specs.Survivors.{Known, survivors, AllOurs}
 
 -- the doubles of a row are numbers
@@ -48,9 +48,12 @@ pub record Kept (table : List ℕ) (s : Sheet) (lent : List ℕ) (fs : List Fed)
   pub holds : u32 b 0 ≡ length fs
   pub records : u32 b 4 ≡ length (plain s fs .records)
   pub few : length (plain s fs .records) ≤ length fs
-  -- the next feed answers as the machine does, in number, report and bytes; a save is accepted, and what it leaves can be restored
+  -- the next feed answers as the machine does, in number, report and bytes, of four numbers and of a line; a save is accepted, and what it leaves can be restored
   pub feeds : (i : Input)
       → feedDo table b i ≡ (feedState s bars i (plain s fs) >>= λ a. Got (record { after = encode bars (a .after); report = a .report }))
+  pub feedLines : (line signals : List ℕ)
+      → feedLineDo table b line signals
+      ≡ (lineInput line signals >>= λ i. feedState s bars i (plain s fs) >>= λ a. Got (record { after = encode bars (a .after); report = a .report }))
   pub saves : (image : List ℕ) → length image ≡ length b → saveDo table b image ≡ Got b
   pub restores : (into : List ℕ) → length into ≡ length b → restoreDo table into b ≡ Got b
   -- "all its rows are those that these bars give", and 15 exactly past the last
@@ -74,10 +77,12 @@ pub record Claimed (table : List ℕ) (s : Sheet) (lent : List ℕ) (ds : List D
   pub known : AllOurs table [] ds → (fs : List Fed) × (survivors table ds ≡ Known fs)
   pub kept : (fs : List Fed) → survivors table ds ≡ Known fs → Kept table s lent fs b
 
--- each price that is handed over is a double: the logic's `Float` has values that no double is, and every f64 argument `fits`
+-- each price that is handed over is a double: the logic's `Float` has values that no double is, and every f64 argument `fits`. A line hands over
+-- none.
 abbrev pub isDouble : Call → Bool
 isDouble Fresh = true
 isDouble (Feed t i) = fits binary64 (i .price)
+isDouble (FeedLine t line signals) = true
 isDouble (Save t image) = true
 isDouble (Restore t image k) = true
 isDouble (Ask r) = true

@@ -5,11 +5,11 @@ use mathlib.Core.List.{List, [], _∷_, _++_}
 use mathlib.Core.Option.{some}
 use mathlib.Core.Path.{_≡_}
 use lib.ListN.{getElem?}
-use Rattle.text.specs.Answer.{Answer, Refused, Got}
+use Rattle.text.specs.Answer.{Answer, Refused, Got, _>>=_}
 use Rattle.text.specs.Text.{same}
 use Rattle.position.specs.Step.{Fed}
-use Rattle.position.specs.Feed.{fedOf}
-use Rattle.history.specs.Calls.{Call, Fresh, Feed, Save, Restore, Ask, Answered, Done}
+use Rattle.position.specs.Feed.{lineInput, fedOf}
+use Rattle.history.specs.Calls.{Call, Fresh, Feed, FeedLine, Save, Restore, Ask, Answered, Done}
 
 -- ---- the survivors
 
@@ -47,10 +47,12 @@ ifDone zero x y = x
 ifDone (suc n) x y = y
 
 -- "fresh, none; after an accepted feed, those before with its own added at the end; after an accepted restore, those at the save that wrote
--- its image; else as before": of a book whose table this is
+-- its image; else as before": of a book whose table this is. A line's "own" is the bar that the line says.
 abbrev pub survive : List ℕ → Ledger → Call → Answered → Ledger
 survive table l Fresh a = ifDone (a .number) (record { past = Known []; saves = l .saves }) l
 survive table l (Feed t i) a = ifDone (a .number) (record { past = cond (same t table) (add (l .past) (fedOf i)) Unknown; saves = l .saves }) l
+survive table l (FeedLine t line signals) a =
+    ifDone (a .number) (record { past = cond (same t table) (add (l .past) (lineInput line signals >>= fedOf)) Unknown; saves = l .saves }) l
 survive table l (Save t image) a = ifDone (a .number) (record { past = l .past; saves = record { image = a .image; past = l .past } ∷ l .saves }) l
 survive table l (Restore t image k) a = ifDone (a .number) (record { past = savedAs k image (l .saves); saves = l .saves }) l
 survive table l (Ask r) a = l
@@ -69,6 +71,7 @@ survivors table ds = ledgerFrom table (record { past = Known []; saves = [] }) d
 abbrev pub images : List (List ℕ) → Call → Answered → List (List ℕ)
 images is Fresh a = is
 images is (Feed t i) a = is
+images is (FeedLine t line signals) a = is
 images is (Save t image) a = ifDone (a .number) (a .image ∷ is) is
 images is (Restore t image k) a = is
 images is (Ask r) a = is
@@ -77,6 +80,7 @@ images is (Ask r) a = is
 abbrev pub Ours : List ℕ → List (List ℕ) → Call → Answered → Type 0
 Ours table is Fresh a = Unit {0}
 Ours table is (Feed t i) a = a .number ≡ 0 → t ≡ table
+Ours table is (FeedLine t line signals) a = a .number ≡ 0 → t ≡ table
 Ours table is (Save t image) a = Unit {0}
 Ours table is (Restore t image k) a = a .number ≡ 0 → getElem? is k ≡ some image
 Ours table is (Ask r) a = Unit {0}

@@ -14,17 +14,16 @@ use Rattle.text.specs.Answer.{number}
 use Rattle.text.specs.Literal.{bytes}
 use Rattle.text.specs.Number.{decimalOf, integerOf}
 use Rattle.text.specs.Read.{Put}
+use Rattle.bar.specs.declared.BarNumbers.{BarNumbers}
 use Rattle.position.specs.State.{posSign}
-use Rattle.position.specs.Feed.{Input}
+use Rattle.position.specs.Feed.{Input, inputOf}
 use Rattle.position.specs.Run.{line, flagText}
 use Rattle.position.specs.declared.Head.{Head}
 use Rattle.book.specs.Layout.{headOf}
 use Rattle.book.specs.Calls.{feedDo}
 use Rattle.book_feed.specs.Feed.{feedOf, FeedAs}
 use Rattle.book_feed.specs.declared.Feed.{Feed}
-use Rattle.book_feed.specs.declared.Feed.the-variants.{Done, WrongLength, NotTable, NotBook, BadBar, PastLimit, NotUtf8, Malformed, Twice, Late, Full}
-use Rattle.run_input.specs.Lines.{inputOf}
-use Rattle.run_input.specs.declared.BarLine.{BarLine}
+use Rattle.book_feed.specs.declared.Feed.the-variants.{Done, WrongLength, NotTable, NotBook, BadBar, WrongLine, LongPrice, PastLimit, NotUtf8, Malformed, Twice, Late, Full}
 use Rattle.run_rows.specs.Rows.{Booked}
 use Rattle.run_rows.proofs.Lent.{lent-put}
 use Rattle.run_output.specs.Shown.{feedRoom}
@@ -44,18 +43,20 @@ number-same a b BadBar = refl
 number-same a b Twice = refl
 number-same a b Late = refl
 number-same a b Full = refl
+number-same a b WrongLine = refl
+number-same a b LongPrice = refl
 
 -- the numbers of a bar as they are handed on
-abbrev pub handed : BarLine → List ℕ → Input
+abbrev pub handed : BarNumbers → List ℕ → Input
 handed w signals = record { id = back w64 (w .id); instant = back w64 (w .instant); offset = back w64 (w .offset); price = w .price; signals = signals }
 
-module _ {table b next : List ℕ} (w : BarLine) (signals : List ℕ) (x : SFits w64 (w .id)) (y : SFits w64 (w .instant)) (z : SFits w64 (w .offset)) (r : Feed)
-    (f : FeedAs table b next (handed w signals) r) where
+module _ (table : List ℕ) {b next : List ℕ} (w : BarNumbers) (signals : List ℕ) (x : SFits w64 (w .id)) (y : SFits w64 (w .instant)) (z : SFits w64 (w .offset)) (r : Feed)
+    (f : FeedAs (feedDo table b (handed w signals)) b next r) where
   handed-is : handed w signals ≡ inputOf w signals
   handed-is = rw (toZ-ofZ {w = w64} x, toZ-ofZ {w = w64} y, toZ-ofZ {w = w64} z)
 
-  fed : FeedAs table b next (inputOf w signals) r
-  fed = subst (λ (i : Input). FeedAs table b next i r) handed-is f
+  fed : FeedAs (feedDo table b (inputOf w signals)) b next r
+  fed = subst (λ (i : Input). FeedAs (feedDo table b i) b next r) handed-is f
 
   -- the book is still one, so its header can be read
   pub next-long : Booked table b → T (fits binary64 (w .price)) → length next ≡ 57696

@@ -1,15 +1,15 @@
 // One bar of the run program: it is fed with its signals, and its line is printed.
+use bar::BarNumbers;
 use book_feed::feed_bar;
 use book_field::pos_sign;
 use book_header::read_head;
-use run_input::BarLine;
 use run_output::FEED_ROOM;
 use run_output::put_feed;
 ghost use Prim.Native.Nat.{_+_, _≤_};
 ghost use lib.Dec.{T};
 ghost use lib.Ieee.{binary64, fits};
 ghost use lib.ListN.{length};
-ghost use Rattle.run_input.specs.Lines.{inputOf};
+ghost use Rattle.position.specs.Feed.{inputOf};
 ghost use Rattle.run_output.specs.Shown.{feedRoom};
 ghost use Rattle.run_rows.specs.Rows.{Booked};
 ghost use Rattle.run_feed_one.specs.One.{FedOne};
@@ -18,7 +18,7 @@ ghost use Rattle.run_feed_one.specs.One.{FedOne};
 pub fn feed_one(
     table: &[u8],
     book: &mut [u8],
-    b: BarLine,
+    b: BarNumbers,
     signals: &[u8],
     out: &mut [u8],
     at: usize,

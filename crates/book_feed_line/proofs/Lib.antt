@@ -1,0 +1,2 @@
+-- The laws of a line's feed.
+pub mod Line
