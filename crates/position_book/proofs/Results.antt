@@ -3,12 +3,12 @@ use Prim.Native.Nat.{ℕ}
 use mathlib.Core.Path.{_≡_, _∙_, refl, ap, subst}
 use mathlib.Core.List.{List, []}
 use lib.IntN.{ℤ}
-use lib.Ieee.{Float}
 use mir.Syntax.{w64}
 use mir.Val.{SFits}
 use mir.Facts.{toZ-ofZ}
 use Rattle.le.proofs.Signs.{back}
 use Rattle.text.specs.Answer.{Answer, number}
+use Rattle.position.specs.Feed.{Input, Accepted}
 use Rattle.book.specs.Calls.{feedDo}
 use Rattle.row.specs.Calls.{pairDo, eventNameDo}
 use Rattle.book_store.specs.Stored.{storedOf, StoredAs}
@@ -42,14 +42,15 @@ store-is {after = after} {q} s e = (e ∙ stored-number after q ∙ ap number (s
 
 -- ---- numbers of 64 bits that are handed on are read back
 
-pub feed-is : {t before after signals : List ℕ} {id instant offset : ℤ} {price : Float} {q : Feed} {r : FeedAnswer} → SFits w64 id → SFits w64 instant → SFits w64 offset
-    → FeedAs t before after (record { id = back w64 id; instant = back w64 instant; offset = back w64 offset; price = price; signals = signals }) q
-    → ((z : List ℕ) → r ≡ feedAnswer (feedOf z q))
-    → FeedIs (feedDo t before (record { id = id; instant = instant; offset = offset; price = price; signals = signals })) before after r
-feed-is {t} {before} {after} {signals} {id} {instant} {offset} {price} {q} F G H f e =
-    let g : FeedAs t before after (record { id = id; instant = instant; offset = offset; price = price; signals = signals }) q =
-    rw (toZ-ofZ {w = w64} F, toZ-ofZ {w = w64} G, toZ-ofZ {w = w64} H) at f in
-    (e after ∙ ap feedAnswer (g .is), g .bytes)
+-- what a feed says, and the bytes that it leaves
+pub fed-is : {d : Answer (Accepted (List ℕ))} {before after : List ℕ} {q : Feed} {r : FeedAnswer} → FeedAs d before after q → ((z : List ℕ) → r ≡ feedAnswer (feedOf z q))
+    → FeedIs d before after r
+fed-is {after = after} f e = (e after ∙ ap feedAnswer (f .is), f .bytes)
+
+pub feed-is : (t : List ℕ) (i : Input) {before after : List ℕ} {q : Feed} {r : FeedAnswer} → SFits w64 (i .id) → SFits w64 (i .instant) → SFits w64 (i .offset)
+    → FeedAs (feedDo t before (record { id = back w64 (i .id); instant = back w64 (i .instant); offset = back w64 (i .offset); price = i .price; signals = i .signals })) before after q
+    → ((z : List ℕ) → r ≡ feedAnswer (feedOf z q)) → FeedIs (feedDo t before i) before after r
+feed-is t i F G H f e = fed-is (rw (toZ-ofZ {w = w64} F, toZ-ofZ {w = w64} G, toZ-ofZ {w = w64} H) at f) e
 
 module _ {i : ℤ} (F : SFits w64 i) where
   pub pair-is : {t b before after : List ℕ} {q : PairRead} {r : PairAnswer} → PairAs t b (back w64 i) before after q → r ≡ pairAnswer (pairReadOf q)

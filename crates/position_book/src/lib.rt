@@ -1,5 +1,6 @@
 // The exported calls. Each takes numbers and byte slices of any kind, and answers a number of document 01 with its values.
 use book_feed::feed_bar;
+use book_feed_line::feed_line;
 use book_store::fresh;
 use book_store::restore;
 use book_store::save;
@@ -30,7 +31,7 @@ use table_compile::compile;
 ghost use mathlib.Core.Path.{_≡_};
 ghost use Rattle.operate.specs.Operate.{operateAlone};
 ghost use Rattle.table.specs.Compile.{compileDo};
-ghost use Rattle.book.specs.Calls.{freshDo, feedDo, saveDo, restoreDo};
+ghost use Rattle.book.specs.Calls.{freshDo, feedDo, feedLineDo, saveDo, restoreDo};
 ghost use Rattle.row.specs.Calls.{pairDo, holdDo, eventNameDo};
 ghost use Rattle.row_blocks.specs.Blocks.{holdBlockDo, pairBlockDo, countsDo};
 ghost use Rattle.position_book_answer_alone.specs.Calls.{signalDo, SignalIs, operateAnswer, nameDo, NameIs};
@@ -93,6 +94,20 @@ pub extern "C" fn position_book_feed(
     ensures { λ r. ⌜ FeedIs (feedDo (now (table .entry)) (now (book .entry)) (record { id = id; instant = instant; offset = offset; price = price; signals = now (signals .entry) })) (now (book .entry)) (now (book .exit)) r ⌝ }
 {
     let r = feed_bar(table, book, id, instant, offset, price, signals);
+    feed_answer(r)
+}
+
+// Feeds a bar by a line of the exchange's comma file, `id,YYYY-MM-DD HH:MM:SS+HH:MM,price` without its LF, and its signals into the book.
+#[no_mangle]
+pub extern "C" fn position_book_feed_line(
+    table: &[u8],
+    book: &mut [u8],
+    line: &[u8],
+    signals: &[u8],
+) -> FeedAnswer
+    ensures { λ r. ⌜ FeedIs (feedLineDo (now (table .entry)) (now (book .entry)) (now (line .entry)) (now (signals .entry))) (now (book .entry)) (now (book .exit)) r ⌝ }
+{
+    let r = feed_line(table, book, line, signals);
     feed_answer(r)
 }
 

@@ -29,11 +29,13 @@ use Rattle.row_names.specs.declared.NameRead.{NameRead}
 use Rattle.row_names.specs.declared.NameRead.the-variants as Name
 use Rattle.row_names.proofs.NameRead as name
 
-pub feed-refused : (after : List ℕ) (r : Feed) → OneOf (1 ∷ 2 ∷ 3 ∷ 4 ∷ 5 ∷ 6 ∷ 7 ∷ 8 ∷ 9 ∷ 10 ∷ []) (tagOf feed.the-type r) → Refused (number (feedOf [] r)) ≡ feedOf after r
-feed-refused after (Feed.Done s) h = absurd (miss (1 ∷ 2 ∷ 3 ∷ 4 ∷ 5 ∷ 6 ∷ 7 ∷ 8 ∷ 9 ∷ 10 ∷ []) 0 tt h)
+pub feed-refused : (after : List ℕ) (r : Feed) → OneOf (1 ∷ 2 ∷ 3 ∷ 4 ∷ 5 ∷ 6 ∷ 7 ∷ 8 ∷ 9 ∷ 10 ∷ 11 ∷ 12 ∷ []) (tagOf feed.the-type r) → Refused (number (feedOf [] r)) ≡ feedOf after r
+feed-refused after (Feed.Done s) h = absurd (miss (1 ∷ 2 ∷ 3 ∷ 4 ∷ 5 ∷ 6 ∷ 7 ∷ 8 ∷ 9 ∷ 10 ∷ 11 ∷ 12 ∷ []) 0 tt h)
 feed-refused after Feed.WrongLength h = refl
 feed-refused after Feed.NotTable h = refl
 feed-refused after Feed.NotBook h = refl
+feed-refused after Feed.WrongLine h = refl
+feed-refused after Feed.LongPrice h = refl
 feed-refused after Feed.BadBar h = refl
 feed-refused after Feed.PastLimit h = refl
 feed-refused after Feed.NotUtf8 h = refl
