@@ -77,7 +77,7 @@ fn stretch(s: &[u8], i: usize) -> Char
 pub fn valid(s: &[u8]) -> bool
     ensures { λ r. ⌜ r ≡ utf8 (now (s .entry)) ⌝ }
 {
-    let mut i = 0;
+    let mut i = skip_common(s, 0);
     while i < s.len() {
         match stretch(s, i) {
             Char::Next(r) => {

@@ -6,7 +6,7 @@ use lib.ListN.{length, drop}
 use borrow.Author.Needs.{needs}
 use Rattle.utf8.specs.Read.{Passed, CharAt}
 use Rattle.utf8.specs.Utf8.{utf8}
-use Rattle.utf8.proofs.Laws.{passed-start, passed-on, passed-char, passed-wrong, passed-all}
+use Rattle.utf8.proofs.Laws.{passed-on, passed-char, passed-wrong, passed-all}
 use Rattle.utf8_text.proofs.valid.Statement.{statement}
 use Rattle.utf8_text.proofs.valid.Tie as tie
 
@@ -17,15 +17,15 @@ abbrev μ-loop : tie.MeasureT-loop
 μ-loop s i₀ i = length s - i
 
 loop-holds : tie.Need-loop-holds Inv-loop μ-loop
-loop-holds c = passed-start _ 0 (omega arith)
+loop-holds c = c .skip-common .ensures
 
 -- the characters that were taken
-taken : (c : tie.After-known-told Inv-loop μ-loop) → let w = c .before .before .before .before .before in let s = w .before .before .args .s .now in
+taken : (c : tie.After-known-told Inv-loop μ-loop) → let w = c .before .before .before .before .before in let s = w .before .before .before .args .s .now in
     Passed s (w .loop .i + 1) (utf8 (drop (w .loop .i) s)) (c .before .r .given .0 .0)
 taken c = subst (CharAt _ _ _) (c .before .r .given .1) (c .before .before .before .stretch .ensures)
 
-skip-common-requires : tie.Need-skip-common-requires Inv-loop μ-loop
-skip-common-requires c κs = taken c .within
+skip-common-requires-2 : tie.Need-skip-common-requires-2 Inv-loop μ-loop
+skip-common-requires-2 c κs = taken c .within
 
 loop-less : tie.Need-loop-less Inv-loop μ-loop
 loop-less c =
@@ -33,7 +33,7 @@ loop-less c =
     omega arith
 
 loop-again : tie.Need-loop-again Inv-loop μ-loop
-loop-again c = passed-on (passed-char (c .before .before .before .before .before .before .loop .inv) (taken (c .before))) (c .skip-common .ensures)
+loop-again c = passed-on (passed-char (c .before .before .before .before .before .before .loop .inv) (taken (c .before))) (c .skip-common2 .ensures)
 
 returns : tie.Need-returns Inv-loop μ-loop
 returns c = passed-wrong (c .before .before .before .before .loop .inv) (subst (CharAt _ _ _) (c .enum-told .given .1) (c .before .before .stretch .ensures))
@@ -47,10 +47,11 @@ valid-spec =
     (tie.spec
     Inv-loop
     μ-loop
+    (λ c κs. search needs)
     loop-holds
     (λ c κs. search needs)
     (λ c. search needs)
-    skip-common-requires
+    skip-common-requires-2
     loop-less
     loop-again
     (λ c. search needs)
