@@ -62,11 +62,15 @@ class Script(tables.Script):
         return ended(n, b)
 
     def feed(self, f):
+        bar = model.Bar(integer(f[1]), integer(f[2]), integer(f[3]), int(f[4], 16))
+        return self.fed(model.feed, bar)
+
+    def fed(self, feed, bar):
+        """what a feed of a bar, or of a comma line, says"""
         b, said = self.get("B"), ""
         n, sh = self.sheet(b)
         if n == 0:
-            bar = model.Bar(integer(f[1]), integer(f[2]), integer(f[3]), int(f[4], 16))
-            n, b, chosen, rec = model.feed(sh, b, bar, self.text)
+            n, b, chosen, rec = feed(sh, b, bar, self.text)
             if n == 0:
                 if rec is not None:
                     why = rec.event if rec.desc == 1 else WHY[rec.desc]
@@ -157,9 +161,9 @@ class Script(tables.Script):
         elif tag == b"P":
             k, at, new = f[1].decode(), int(f[2]), bytes.fromhex(f[3].decode())
             self.bytes[k][at : at + len(new)] = new
-        elif tag in b"CB":
-            out = self.compile() if tag == b"C" else self.feed(f)
-            self.text = b""
+        elif tag in b"CBX":
+            calls = {b"C": self.compile, b"B": lambda: self.feed(f), b"X": lambda: self.fed(model.feed_line, line[2:])}
+            out, self.text = calls[tag](), b""
             return out
         elif tag == b"H":
             return self.get(f[1].decode())[int(f[2]) : int(f[3])].hex()

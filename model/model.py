@@ -1,10 +1,14 @@
 #!/usr/bin/env python3
-"""A plain model of document 01: sheets, matching, the machine, the book's bytes and checks, rows, the run program.
+"""A plain model of document 01: sheets, matching, the machine, the book's bytes and checks, rows, the run program; and
+of document 02, W1: the exchange's comma lines.
 
 It is independent of the definitions and of the code: it was written before they were read. (One line was changed after that:
 `choose` asks openings before exits in a table that mixes them.) Tables are left out: a call here takes the sheet.
-Run as a program it tries case *1 and some roundings. `cases.py` beside it sets it against every case of the proved table."""
+Run as a program it tries case *1, some roundings and some lines. `cases.py` beside it sets it against every case of the
+proved table."""
+import re
 import struct
+from datetime import datetime, timedelta
 from fractions import Fraction
 
 ANY = "任意".encode()
@@ -389,6 +393,51 @@ def step(sh, st, bar, d):
     return i
 
 
+# ---------- the exchange's comma lines (document 02, W1) ----------
+LINE = re.compile(
+    rb"([0-9]{1,10}),"
+    rb"([0-9]{4})-([0-9]{2})-([0-9]{2}) ([0-9]{2}):([0-9]{2}):([0-9]{2})([+-])([0-9]{2}):([0-9]{2}),"
+    rb"([0-9]+)(?:\.([0-9]+))?"
+)
+
+
+def moment(fields):
+    """of a real day and time of the years 1970 to 2099; else 16"""
+    try:
+        wall = datetime(*map(int, fields))
+    except ValueError:
+        raise Refused(16)
+    if not 1970 <= wall.year <= 2099:
+        raise Refused(16)
+    return wall
+
+
+def offset_of(sign, hours, minutes):
+    """at most 23:59 on either side; else 16"""
+    if int(hours) > 23 or int(minutes) > 59:
+        raise Refused(16)
+    away = timedelta(hours=int(hours), minutes=int(minutes))
+    return -away if sign == b"-" else away
+
+
+def price_of(whole, behind):
+    """the bits of all digits over a power of ten, at most 15 digits and six behind the point; else 17"""
+    if len(whole + behind) > 15 or len(behind) > 6:
+        raise Refused(17)
+    return bits(float(int(whole + behind)) / float(10 ** len(behind)))
+
+
+def read_line(line):
+    """the bar that a line says: 16 of the whole line, then 17; its ranges (11) are asked of every bar alike"""
+    form = LINE.fullmatch(line)
+    if form is None:
+        raise Refused(16)
+    id_, *wall, sign, hours, minutes, whole, behind = form.groups(default=b"")
+    wall, offset = moment(wall), offset_of(sign, hours, minutes)
+    instant = (wall - datetime(1970, 1, 1) - offset) // timedelta(microseconds=1)
+    return Bar(int(id_), instant, offset // timedelta(seconds=1), price_of(whole, behind))
+
+
 # ---------- book ----------
 def enc_hold(h):
     return struct.pack("<qiBBBBQQ", h.time.instant, h.time.offset, h.pos, 0 if h.yld is None else 1, 0, 0,
@@ -565,13 +614,29 @@ def fresh(b):
 
 def feed(sh, b, bar, sigs):
     """(number, book after, event chosen or None, record written or None)"""
+    return fed(sh, b, lambda: bar, sigs)
+
+
+def feed_line(sh, b, line, sigs):
+    """the same of the bar that a comma line says: 16 and 17 come after 10 and before 11"""
+    return fed(sh, b, lambda: read_line(line), sigs)
+
+
+def checked_bar(bar):
+    """every field in its range; else 11"""
+    if not bar.in_range():
+        raise Refused(11)
+    return bar
+
+
+def fed(sh, b, read, sigs):
+    """a feed of the bar that is read after the book's check"""
     if not book_len_ok(b):
         return 8, b, None, None
     if not header_ok(b):
         return 10, b, None, None
-    if not bar.in_range():
-        return 11, b, None, None
     try:
+        bar = checked_bar(read())
         d = read_signals(sigs)
     except Refused as r:
         return r.n, b, None, None
@@ -784,4 +849,7 @@ if __name__ == "__main__":
     plain = read_sheet(b"P|soy|M1|0|5|100|0\n")
     one = feed(plain, fresh(bytes(160))[1], Bar(1, 0, 0, bits(1.0)), b"")[1]
     assert [hold_row(plain, one, i)[0] for i in (-1, 0, 1)] == [15, 0, 15]
+    read = [feed_line(plain, fresh(bytes(160))[1], b"1,%s 00:00:00+00:00,%s" % said, b"") for said in (
+        (b"1970-01-01", b"1"), (b"2023-02-29", b"1"), (b"2024-02-29", b"1.0000000"))]
+    assert [r[0] for r in read] == [0, 16, 17] and read[0][1] == one
     print("model ok")

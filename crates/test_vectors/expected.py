@@ -1,13 +1,15 @@
 """The independent model that made `stdout`: usage `python3 expected.py < stdin > stdout`.
 
-Written from document 01 (with RFC 3629 and IEEE 754) and not from the program: UTF-8 is Python's own strict decoder, numbers are
-Python's unbounded integers, doubles are Python's floats (binary64, each operation rounds once), ties are decided on exact fractions.
+Written from documents 01 and 02 (with RFC 3629 and IEEE 754) and not from the program: UTF-8 is Python's own strict
+decoder, numbers are Python's unbounded integers, doubles are Python's floats (binary64, each operation rounds once), ties
+are decided on exact fractions, days are Python's own.
 A line that begins with `#` or is empty is written back; any other asks, and is written back with ` = ` and the answer."""
 
 import math
 import re
 import struct
 import sys
+from datetime import date
 from fractions import Fraction
 
 WILDCARD = "任意".encode()
@@ -159,6 +161,15 @@ def elapsed(earlier, later):
     return joined(seconds, bits(float(seconds) / 86400))
 
 
+def day_number(year, month, day):
+    """Of a real day of 1970 to 2099, counted from 1970-01-01; else None."""
+    try:
+        real_day = date(year, month, day)
+    except (ValueError, OverflowError):
+        return None
+    return (real_day - date(1970, 1, 1)).days if 1970 <= year <= 2099 else None
+
+
 # Letters whose question is one text, `|` and all.
 WHOLE = {
     b"B": stored,
@@ -180,6 +191,7 @@ WHOLE = {
 FIELDS = {
     b"D": lambda digits, limit: or_else(b"-", joined, decimal_of(digits, int(limit))),
     b"E": elapsed,
+    b"G": lambda *fields: or_else(b"-", joined, day_number(*map(int, fields))),
     b"H": lambda own, later: or_else(b"-", bits, hold_yield(real(own), real(later))),
     b"K": lambda side, *xs: joined(int(stop_hit(side, *map(real, xs)))),
     b"P": lambda side, *xs: or_else(b"-", bits, pair_yield(side, *map(real, xs))),

@@ -6,6 +6,7 @@
 //   C              compiles the text into the table
 //   N              makes the book fresh
 //   B|id|instant|offset|price      feeds the bar with the text as its signals: position, changed, what decided it, the event
+//   X|line         feeds the bar that a line of the exchange's comma file says, as `B` does
 //   S              saves the book into the image         R             restores the book from it
 //   V|i            pair row i                            W|i           hold row i
 //   E|i            the name of event i
@@ -15,7 +16,7 @@
 //   G|mask|from|to the same: the places where a feed still passes its header check
 //   #              a comment
 //
-// A call's answer begins with its number and ends with a fingerprint of the bytes that it may change. `C` and `B` empty the text.
+// A call's answer begins with its number and ends with a fingerprint of the bytes that it may change. `C`, `B` and `X` empty the text.
 use libc::STDIN_FILENO;
 use test_books_line::Lent;
 use test_books_line::line;
@@ -51,9 +52,9 @@ fn lines(
     }
 }
 
-// Reads at most 65,536 bytes. A text has room for 20,000.
+// Reads at most 80,000 bytes. A text has room for 20,000.
 fn main() {
-    let mut space = io::large_buffer();
+    let mut space = [0u8; 80000];
     let n = io::read_full(STDIN_FILENO, &mut space);
     let mut text = [0u8; 20000];
     let mut table = [0u8; 33000];

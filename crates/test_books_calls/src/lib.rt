@@ -2,6 +2,7 @@
 // fingerprint of the bytes that it may change.
 use book_feed::Feed;
 use book_feed::feed_bar;
+use book_feed_line::feed_line;
 use book_store::fresh;
 use book_store::restore;
 use book_store::save;
@@ -66,6 +67,14 @@ fn report(r: Report) {
     next();
 }
 
+// What a feed answers.
+fn answered(r: Feed, book: &[u8]) {
+    if let Feed::Done(said) = r {
+        report(said);
+    }
+    ended(r.number(), book);
+}
+
 // `B|id|instant|offset|price`: feeds a bar with its signals.
 fn fed(s: &[u8], signals: &[u8], table: &[u8], book: &mut [u8]) {
     let id = ask::signed(field(s, 1));
@@ -80,10 +89,16 @@ fn fed(s: &[u8], signals: &[u8], table: &[u8], book: &mut [u8]) {
         ask::real(field(s, 4)),
         signals,
     );
-    if let Feed::Done(said) = r {
-        report(said);
+    answered(r, book);
+}
+
+// `X|line`: feeds the bar that the line says with its signals.
+fn fed_line(s: &[u8], signals: &[u8], table: &[u8], book: &mut [u8]) {
+    if s.len() < 2 {
+        return;
     }
-    ended(r.number(), book);
+    let r = feed_line(table, book, &s[2..], signals);
+    answered(r, book);
 }
 
 // Runs a line of one of these letters; one of another does nothing.
@@ -91,6 +106,7 @@ pub fn called(tag: u8, s: &[u8], signals: &[u8], table: &[u8], book: &mut [u8], 
     match tag {
         b'N' => made(book),
         b'B' => fed(s, signals, table, book),
+        b'X' => fed_line(s, signals, table, book),
         b'S' => saved(table, book, image),
         b'R' => restored(table, book, image),
         _ => return,

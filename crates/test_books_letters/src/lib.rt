@@ -9,7 +9,7 @@ use test_console_text::lent::touched;
 // Whether a line of that letter asks something.
 fn asks(tag: u8) -> bool {
     match tag {
-        b'B' | b'C' | b'E' | b'F' | b'G' | b'H' | b'N' | b'R' | b'S' | b'V' | b'W' => true,
+        b'B' | b'C' | b'E' | b'F' | b'G' | b'H' | b'N' | b'R' | b'S' | b'V' | b'W' | b'X' => true,
         _ => false,
     }
 }
@@ -36,10 +36,10 @@ pub fn inspect(
     }
 }
 
-// How many bytes of the text are taken after the line, whose letter is left out: `B` and `C` empty it.
+// How many bytes of the text are taken after the line, whose letter is left out: `B`, `C` and `X` empty it.
 pub fn grown(tag: u8, s: &[u8], text: &mut [u8], used: usize) -> usize {
     match tag {
-        b'B' | b'C' => 0,
+        b'B' | b'C' | b'X' => 0,
         _ => build::added(tag, s, text, used),
     }
 }

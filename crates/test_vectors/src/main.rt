@@ -18,6 +18,7 @@ fn answer(s: &[u8]) {
         b'D' => test_vectors_numbers::decimal(rest),
         b'E' => test_vectors_numbers::seconds(rest),
         b'F' => test_vectors_numbers::finite(rest),
+        b'G' => test_vectors_numbers::day(rest),
         b'H' => test_vectors_numbers::hold_yield(rest),
         b'I' => test_vectors_numbers::int(rest),
         b'K' => test_vectors_numbers::stop(rest),

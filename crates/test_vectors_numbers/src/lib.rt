@@ -136,6 +136,18 @@ pub fn time(s: &[u8]) {
     show::signed(local.day());
 }
 
+// G|year|month|day: the number of the day, where there is one.
+pub fn day(s: &[u8]) {
+    let y = ask::number(field(s, 0));
+    let m = ask::number(field(s, 1));
+    let d = ask::number(field(s, 2));
+    if calendar::is_day(y, m, d) {
+        show::number(calendar::day_number(y, m, d));
+    } else {
+        show::text(b"-");
+    }
+}
+
 // E|earlier|later: the whole seconds between two instants, and their days.
 pub fn seconds(s: &[u8]) {
     let earlier = ask::instant(field(s, 0));
