@@ -3,7 +3,8 @@
 //!     side_by_side feed                            a feed, by the size of the sheet and the number of signals
 //!     side_by_side book                            compiling; a book of 1,000,000 bars: feeds as it grows, save, restore, all rows
 //!     side_by_side program BIN                     whole runs of the run program BIN
-//!     side_by_side count WHO SIZE SIGNALS BARS     only feeds, of `ours`, `text` or `map`, within the function `measured`
+//!     side_by_side count WHO SIZE SIGNALS BARS     only feeds, of `ours`, `line`, `text` or `map`, within the function
+//!                                                  `measured`; `line` is ours by the exchange's lines
 //!
 //! The Rust is given the same lines, of which it makes its map (`text`); and, beside it, its map for nothing (`map`).
 //! `host/benches/run` builds and runs it, and counts instructions.
@@ -27,6 +28,8 @@ type Map = HashMap<String, String>;
 struct Fed {
     bar: Bar,
     lines: String,
+    /// The bar as a line of the exchange's comma file, its price to six decimals.
+    comma: String,
     lite: LiteBar,
     map: Map,
 }
@@ -35,6 +38,7 @@ struct Fed {
 #[derive(Clone, Copy, PartialEq)]
 enum Who {
     Ours,
+    Line,
     Text,
     Map,
 }
@@ -58,11 +62,19 @@ fn fed(bars: usize, signals: usize) -> Vec<Fed> {
     let bars = season(bars, signals).into_iter();
     bars.map(|bar| Fed {
         lines: bar.signals_text(),
+        comma: comma_line(&bar),
         lite: lite_bar(&bar),
         map: bar.signals.iter().cloned().collect(),
         bar,
     })
     .collect()
+}
+
+/// The line of a bar whose offset is not to the west.
+fn comma_line(bar: &Bar) -> String {
+    let local = position_book::Instant(bar.instant).local(bar.offset);
+    let (hours, minutes) = (bar.offset / 3_600, bar.offset / 60 % 60);
+    format!("{},{local}+{hours:02}:{minutes:02},{:.6}", bar.id, bar.price)
 }
 
 /// Both sides of a book, empty, and the table.
@@ -93,6 +105,7 @@ impl Sides {
 fn measured(who: Who, sides: &mut Sides, bars: &[Fed]) -> i64 {
     match who {
         Who::Ours => bars.iter().map(|fed| feed_ours(sides, fed)).sum(),
+        Who::Line => bars.iter().map(|fed| feed_line(sides, fed)).sum(),
         Who::Text => bars
             .iter()
             .map(|fed| feed_rust(&mut sides.position, fed.lite, &map_of(&fed.lines)))
@@ -115,6 +128,13 @@ fn feed_ours(sides: &mut Sides, fed: &Fed) -> i64 {
         bar.price,
         fed.lines.as_bytes(),
     );
+    assert_eq!(said.number, 0);
+    i64::from(said.pos)
+}
+
+fn feed_line(sides: &mut Sides, fed: &Fed) -> i64 {
+    let (line, signals) = (fed.comma.as_bytes(), fed.lines.as_bytes());
+    let said = raw::feed_line(&sides.table, &mut sides.book, line, signals);
     assert_eq!(said.number, 0);
     i64::from(said.pos)
 }
@@ -198,6 +218,7 @@ fn feed_row(size: Size, signals: usize) {
 fn count(who: &str, size: &str, signals: &str, bars: &str) {
     let who = match who {
         "ours" => Who::Ours,
+        "line" => Who::Line,
         "text" => Who::Text,
         _ => Who::Map,
     };

@@ -1,6 +1,6 @@
 /* The exported calls of libposition_book.a, for C. A call asks one thing of its caller: room on the stack, of
    POSITION_BOOK_COMPILE_STACK bytes (compile) or POSITION_BOOK_CALL_STACK (every other). Beside that nothing: whatever the
-   bytes and numbers are, it ends within its buffers with document 01's number (0: done), and a refusal changes no byte.
+   bytes and numbers are, it ends within its buffers with the documents' number (0: done), and a refusal changes no byte.
    Buffers that one call is lent must not overlap.
    tests/declarations.rs holds these declarations to the exported signatures, tests/stack.rs the figures to the archive. */
 #ifndef POSITION_BOOK_H
@@ -105,6 +105,10 @@ uint32_t position_book_fresh(uint8_t *book, size_t book_length);
 
 /* Feeds a bar and its signals into the book, by the table. */
 FeedAnswer position_book_feed(const uint8_t *table, size_t table_length, uint8_t *book, size_t book_length, int64_t id, int64_t instant, int64_t offset, double price, const uint8_t *signals, size_t signals_length);
+
+/* Feeds the bar of one line of the exchange's comma file, id,YYYY-MM-DD HH:MM:SS+HH:MM,price, without its LF, and its
+   signals into the book, by the table. */
+FeedAnswer position_book_feed_line(const uint8_t *table, size_t table_length, uint8_t *book, size_t book_length, const uint8_t *line, size_t line_length, const uint8_t *signals, size_t signals_length);
 
 /* Copies the book to the image. */
 uint32_t position_book_save(const uint8_t *table, size_t table_length, const uint8_t *book, size_t book_length, uint8_t *image, size_t image_length);

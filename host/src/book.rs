@@ -4,6 +4,7 @@ use crate::raw;
 use crate::refusal::{Refusal, done};
 use crate::rows::{Holds, Pairs};
 use crate::table::Table;
+use crate::time::Instant;
 
 /// The most bars that a book can have room for.
 pub const MOST_BARS: usize = 1_000_000;
@@ -13,8 +14,8 @@ pub const MOST_BARS: usize = 1_000_000;
 pub struct Bar {
     /// 0 to 2,147,483,647.
     pub id: i64,
-    /// Microseconds from 1970, UTC.
-    pub instant: i64,
+    /// 1970 to the end of 2099.
+    pub instant: Instant,
     /// Seconds that the wall clock is ahead of UTC, -86,399 to 86,399.
     pub offset: i64,
     /// A finite double.
@@ -60,6 +61,23 @@ pub struct Decision {
     pub cause: Option<Cause>,
 }
 
+impl Decision {
+    /// What a feed answered.
+    fn of(answer: raw::FeedAnswer) -> Result<Decision, Refusal> {
+        done(answer.number)?;
+        Ok(Decision {
+            pos: Pos::from_sign(answer.pos),
+            changed: answer.changed == 1,
+            cause: match answer.decision {
+                0 => None,
+                1 => Some(Cause::Event(answer.event as usize)),
+                2 => Some(Cause::Stop),
+                _ => Some(Cause::Timeout),
+            },
+        })
+    }
+}
+
 /// The book of one position: what it holds after the bars that it was fed.
 #[derive(Clone, Debug, PartialEq, Eq)]
 pub struct Book {
@@ -93,13 +111,14 @@ impl Book {
         Ok(book)
     }
 
-    /// Feeds a bar with its signals, `key|value` lines (`signal_lines` makes them of a map). A refused bar leaves the book as it was.
+    /// Feeds a bar with its signals, `key|value` lines (`signal_lines` makes them of a map). A refused bar leaves the
+    /// book as it was.
     ///
     /// ```
-    /// use position_book::{Bar, Book, Cause, Pos, Refusal, Table};
+    /// use position_book::{Bar, Book, Cause, Instant, Pos, Refusal, Table};
     /// let table = Table::compile("P|soy|M1|0|5|100|0\nO|LO|go\nA|d1_u_w_up_任意_任意_10\n")?;
     /// let mut book = Book::fresh(10)?;
-    /// let bar = Bar { id: 1, instant: 0, offset: 0, price: 100.0 };
+    /// let bar = Bar { id: 1, instant: Instant(0), offset: 0, price: 100.0 };
     /// let decision = book.feed(&table, bar, "d1_u_w|up_a_b_10\n")?;
     /// assert_eq!((decision.pos, decision.changed), (Pos::Long, true));
     /// assert_eq!(decision.cause, Some(Cause::Event(0)));
@@ -112,26 +131,44 @@ impl Book {
         bar: Bar,
         signals: impl AsRef<[u8]>,
     ) -> Result<Decision, Refusal> {
-        let a = raw::feed(
+        Decision::of(raw::feed(
             table.as_bytes(),
             &mut self.bytes,
             bar.id,
-            bar.instant,
+            bar.instant.0,
             bar.offset,
             bar.price,
             signals.as_ref(),
-        );
-        done(a.number)?;
-        Ok(Decision {
-            pos: Pos::from_sign(a.pos),
-            changed: a.changed == 1,
-            cause: match a.decision {
-                0 => None,
-                1 => Some(Cause::Event(a.event as usize)),
-                2 => Some(Cause::Stop),
-                _ => Some(Cause::Timeout),
-            },
-        })
+        ))
+    }
+
+    /// Feeds the bar of one line of the exchange's comma file, `id,YYYY-MM-DD HH:MM:SS+HH:MM,price`, without its LF,
+    /// with its signals as `feed` takes them. A refused line leaves the book as it was.
+    ///
+    /// ```
+    /// use position_book::{Book, Pos, Refusal, Table};
+    /// let table = Table::compile("P|soy|M1|0|5|100|0\nO|LO|go\nA|d1_u_w_up_任意_任意_10\n")?;
+    /// let mut book = Book::fresh(10)?;
+    /// let line = "7,2026-09-02 15:00:00+08:00,3120.5";
+    /// assert_eq!(book.feed_line(&table, line, "d1_u_w|up_a_b_10\n")?.pos, Pos::Long);
+    /// let hold = book.holds(&table)?.next().unwrap();
+    /// assert_eq!((hold.local.to_string().as_str(), hold.price), ("2026-09-02 15:00:00", 3120.5));
+    /// let no_day = "8,2027-02-29 15:00:00+08:00,3120.5";
+    /// assert_eq!(book.feed_line(&table, no_day, ""), Err(Refusal::WrongLine));
+    /// # Ok::<(), Refusal>(())
+    /// ```
+    pub fn feed_line(
+        &mut self,
+        table: &Table,
+        line: impl AsRef<[u8]>,
+        signals: impl AsRef<[u8]>,
+    ) -> Result<Decision, Refusal> {
+        Decision::of(raw::feed_line(
+            table.as_bytes(),
+            &mut self.bytes,
+            line.as_ref(),
+            signals.as_ref(),
+        ))
     }
 
     /// An image of the book, to be stored.

@@ -1,4 +1,4 @@
-//! The exported calls as they are: numbers and byte slices in, document 01's number and values out.
+//! The exported calls as they are: numbers and byte slices in, the documents' number and values out.
 //!
 //! Each function is safe, because no call asks anything of its caller but room on the stack ([`COMPILE_STACK`],
 //! [`CALL_STACK`]): whatever the bytes and numbers are, it ends within its buffers, and a refusal changes no byte.
@@ -145,6 +145,16 @@ mod calls {
             signals: *const u8,
             signals_length: usize,
         ) -> FeedAnswer;
+        pub fn position_book_feed_line(
+            table: *const u8,
+            table_length: usize,
+            book: *mut u8,
+            book_length: usize,
+            line: *const u8,
+            line_length: usize,
+            signals: *const u8,
+            signals_length: usize,
+        ) -> FeedAnswer;
         pub fn position_book_save(
             table: *const u8,
             table_length: usize,
@@ -255,6 +265,22 @@ pub fn feed(
             instant,
             offset,
             price,
+            signals.as_ptr(),
+            signals.len(),
+        )
+    }
+}
+
+/// Feeds the bar of one line of the exchange's comma file, without its LF, and its signals into the book, by the table.
+pub fn feed_line(table: &[u8], book: &mut [u8], line: &[u8], signals: &[u8]) -> FeedAnswer {
+    unsafe {
+        calls::position_book_feed_line(
+            table.as_ptr(),
+            table.len(),
+            book.as_mut_ptr(),
+            book.len(),
+            line.as_ptr(),
+            line.len(),
             signals.as_ptr(),
             signals.len(),
         )

@@ -4,6 +4,7 @@ use crate::book::Pos;
 use crate::raw;
 use crate::refusal::{Refusal, done};
 use crate::signal::cut;
+use crate::time::LocalTime;
 
 /// The side of a trade pair.
 #[derive(Clone, Copy, Debug, PartialEq, Eq, Hash)]
@@ -19,9 +20,9 @@ pub struct Pair {
     /// The position's name.
     pub mark: String,
     pub side: Side,
-    /// Local times, in microseconds.
-    pub opened: i64,
-    pub closed: i64,
+    /// The local times.
+    pub opened: LocalTime,
+    pub closed: LocalTime,
     /// The prices.
     pub from: f64,
     pub to: f64,
@@ -37,8 +38,7 @@ pub struct Pair {
 /// A bar that was held.
 #[derive(Clone, Copy, Debug, PartialEq)]
 pub struct Hold {
-    /// Local time, in microseconds.
-    pub local: i64,
+    pub local: LocalTime,
     pub pos: Pos,
     pub price: f64,
     /// The yield to the next bar in basis points; none where there is none yet, or the price is not above zero. Where both prices are
@@ -49,12 +49,12 @@ pub struct Hold {
 /// The trade pairs of a book, in their order.
 ///
 /// ```
-/// use position_book::{Bar, Book, Refusal, Side, Table};
+/// use position_book::{Bar, Book, Instant, Refusal, Side, Table};
 /// let table = Table::compile("P|soy|M1|0|1|100|1\nO|SO|down\nA|d_u_w_down_任意_任意_0\n")?;
 /// let mut book = Book::fresh(10)?;
 /// for (id, price) in [(1, 100.0), (2, 90.0), (3, 80.0)] {
 ///     let signals = if id == 1 { "d_u_w|down_a_b_5\n" } else { "" };
-///     book.feed(&table, Bar { id, instant: id * 1_000_000, offset: 0, price }, signals)?;
+///     book.feed(&table, Bar { id, instant: Instant(id * 1_000_000), offset: 0, price }, signals)?;
 /// }
 /// let pairs: Vec<_> = book.pairs(&table)?.collect();
 /// assert_eq!((pairs.len(), pairs[0].side, pairs[0].bp), (1, Side::Short, Some(2000.0)));
@@ -66,11 +66,11 @@ pub struct Pairs<'a>(Blocks<'a>);
 /// The holds of a book, in their order.
 ///
 /// ```
-/// use position_book::{Bar, Book, Refusal, Table};
+/// use position_book::{Bar, Book, Instant, Refusal, Table};
 /// let table = Table::compile("P|soy|M1|0|5|100|0\n")?;
 /// let mut book = Book::fresh(10)?;
 /// for (id, price) in [(1, 100.0), (2, 125.0)] {
-///     book.feed(&table, Bar { id, instant: id * 1_000_000, offset: 0, price }, "")?;
+///     book.feed(&table, Bar { id, instant: Instant(id * 1_000_000), offset: 0, price }, "")?;
 /// }
 /// let yields: Vec<_> = book.holds(&table)?.map(|hold| hold.bp).collect();
 /// assert_eq!(yields, [Some(2500.0), None]);
@@ -95,7 +95,7 @@ impl Iterator for Pairs<'_> {
         self.0.row(|rest| {
             let side = i32::from_le_bytes(bytes(rest));
             let present = u32::from_le_bytes(bytes(rest));
-            let (opened, closed) = (whole(rest), whole(rest));
+            let (opened, closed) = (local(rest), local(rest));
             let (from, to) = (double(rest), double(rest));
             let (ids, days) = (whole(rest), double(rest));
             let bp = yielded(present, double(rest));
@@ -132,7 +132,7 @@ impl Iterator for Holds<'_> {
 
     fn next(&mut self) -> Option<Hold> {
         self.0.row(|rest| {
-            let local = whole(rest);
+            let local = local(rest);
             let pos = Pos::from_sign(i32::from_le_bytes(bytes(rest)));
             let present = u32::from_le_bytes(bytes(rest));
             let price = double(rest);
@@ -228,6 +228,10 @@ fn bytes<const N: usize>(rest: &mut &[u8]) -> [u8; N] {
 
 fn whole(rest: &mut &[u8]) -> i64 {
     i64::from_le_bytes(bytes(rest))
+}
+
+fn local(rest: &mut &[u8]) -> LocalTime {
+    LocalTime::of_row(whole(rest))
 }
 
 fn double(rest: &mut &[u8]) -> f64 {

@@ -1,11 +1,14 @@
-//! Every exported call against an independent model of document 01 (`model/`), on valid, damaged and random arguments: number, values and
-//! all bytes. POSITION_BOOK_ROUNDS sets another number of rounds; POSITION_BOOK_SEED runs the round of one seed alone.
+//! Every exported call against an independent model of documents 01 and 02 (`model/`), on valid, damaged and random
+//! arguments: number, values and all bytes. POSITION_BOOK_ROUNDS sets another number of rounds; POSITION_BOOK_SEED runs
+//! the round of one seed alone.
 
 mod against;
 mod model;
 
 use against::round::round;
-use against::{Arguments, CALLS, COMPILE, Call, Comparison, FEED, FRESH, HOLD_ROW, RESTORE, SAVE};
+use against::{
+    Arguments, CALLS, COMPILE, Call, Comparison, FEED, FEED_LINE, FRESH, HOLD_ROW, RESTORE, SAVE,
+};
 use position_book::raw::{TABLE_LENGTH, book_length};
 use std::collections::BTreeSet;
 
@@ -60,12 +63,12 @@ fn every_exported_call_is_compared() {
 
 #[test]
 fn the_largest_book_is_the_models() {
-    assert_eq!(book_answers(1_000_000), [0, 0, 0, 0, 0]);
+    assert_eq!(book_answers(1_000_000), [0, 0, 0, 0, 0, 0]);
 }
 
 #[test]
 fn a_larger_book_is_refused() {
-    assert_eq!(book_answers(1_000_001), [8, 8, 8, 8, 8]);
+    assert_eq!(book_answers(1_000_001), [8, 8, 8, 8, 8, 8]);
 }
 
 /// What is answered of a book with room for so many bars.
@@ -74,6 +77,7 @@ fn book_answers(bars: usize) -> Vec<u64> {
     let sheet = Arguments::compiling(b"P|n|s|0|0|0|1\nO|LO|o\n", vec![0; TABLE_LENGTH]);
     let (_, mut arguments) = comparison.run(&COMPILE, &sheet);
     arguments.text.clear();
+    arguments.line = b"1,1970-01-02 00:00:00+00:00,1".to_vec();
     arguments.book = vec![1; book_length(bars)];
     arguments.image = vec![1; book_length(bars)];
     let answer = |call: &Call| {
@@ -81,7 +85,7 @@ fn book_answers(bars: usize) -> Vec<u64> {
         arguments = after;
         number
     };
-    [FRESH, FEED, SAVE, RESTORE, HOLD_ROW]
+    [FRESH, FEED, FEED_LINE, SAVE, RESTORE, HOLD_ROW]
         .iter()
         .map(answer)
         .collect()

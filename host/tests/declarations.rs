@@ -88,7 +88,9 @@ fn crossing(shape: &Shape) -> Shape {
 fn exported() -> (BTreeMap<String, Shape>, BTreeMap<String, Shape>) {
     let calls_text = read("crates/position_book/src/lib.rt");
     let mut shapes = structs(&read("crates/position_book_answer/src/lib.rt"));
-    shapes.extend(structs(&read("crates/position_book_answer_alone/src/lib.rt")));
+    shapes.extend(structs(&read(
+        "crates/position_book_answer_alone/src/lib.rt",
+    )));
     let calls = calls(&calls_text, "pub extern \"C\" fn ", &['\n', '{'])
         .into_iter()
         .map(|(name, shape)| (name, crossing(&shape)))

@@ -1,6 +1,6 @@
 //! Rows in blocks are the rows asked one by one, over several blocks of a long book, and there are as many as the counts say.
 
-use position_book::{Bar, Book, Hold, Pair, Pos, Refusal, Side, Table, raw};
+use position_book::{Bar, Book, Hold, Instant, LocalTime, Pair, Pos, Refusal, Side, Table, raw};
 
 /// A book of several blocks.
 fn long_book(table: &Table) -> Result<Book, Refusal> {
@@ -13,7 +13,7 @@ fn book_of(table: &Table, bars: i64) -> Result<Book, Refusal> {
     for id in 0..bars {
         let bar = Bar {
             id,
-            instant: id * 1_000_000,
+            instant: Instant(id * 1_000_000),
             offset: 28_800,
             price: 3_000.0 + (id * 7 % 100) as f64,
         };
@@ -36,6 +36,11 @@ fn yielded(present: u32, bp: f64) -> Option<f64> {
     (present == 1).then_some(bp)
 }
 
+/// The local time of so many microseconds.
+fn local(micros: i64) -> LocalTime {
+    Instant(micros).local(0)
+}
+
 /// Pair row number i, asked alone.
 fn pair(table: &Table, book: &Book, i: i64) -> Option<Pair> {
     let mut buffer = [0; raw::ROW_BUFFER];
@@ -46,8 +51,8 @@ fn pair(table: &Table, book: &Book, i: i64) -> Option<Pair> {
         mark: text(a.symbol, a.mark),
         sequence: text(a.symbol + a.mark, a.sequence),
         side: if a.side == 1 { Side::Long } else { Side::Short },
-        opened: a.opened,
-        closed: a.closed,
+        opened: local(a.opened),
+        closed: local(a.closed),
         from: a.from,
         to: a.to,
         ids: a.ids,
@@ -60,7 +65,7 @@ fn pair(table: &Table, book: &Book, i: i64) -> Option<Pair> {
 fn hold(table: &Table, book: &Book, i: i64) -> Option<Hold> {
     let a = raw::hold_row(table.as_bytes(), book.as_bytes(), i);
     (a.number == 0).then(|| Hold {
-        local: a.local,
+        local: local(a.local),
         pos: [Pos::Short, Pos::Flat, Pos::Long][(a.pos + 1) as usize],
         price: a.price,
         bp: yielded(a.present, a.bp),

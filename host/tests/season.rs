@@ -1,6 +1,6 @@
 //! A season through the safe API, with a save and a restore into another book after every bar: it prints what the run program prints.
 
-use position_book::{Bar, Book, Hold, Pair, Pos, Refusal, Side, Table};
+use position_book::{Bar, Book, Hold, Instant, Pair, Pos, Refusal, Side, Table};
 use std::fmt::Write;
 use std::fs;
 use std::path::Path;
@@ -17,7 +17,7 @@ fn bar(line: &str) -> Bar {
     let f: Vec<&str> = line.split('|').collect();
     Bar {
         id: f[1].parse().unwrap(),
-        instant: f[2].parse().unwrap(),
+        instant: Instant(f[2].parse().unwrap()),
         offset: f[3].parse().unwrap(),
         price: f64::from_bits(u64::from_str_radix(f[4], 16).unwrap()),
     }
@@ -50,8 +50,8 @@ fn pair_line(p: &Pair) -> String {
         "R|{}|{}|{side}|{}|{}|{from:016x}|{to:016x}|{}|{}|{days:016x}|{}\n",
         p.symbol,
         p.mark,
-        p.opened,
-        p.closed,
+        p.opened.micros(),
+        p.closed.micros(),
         p.ids,
         p.sequence,
         yielded(p.bp)
@@ -61,7 +61,7 @@ fn pair_line(p: &Pair) -> String {
 fn hold_line(h: &Hold) -> String {
     format!(
         "H|{}|{}|{:016x}|{}\n",
-        h.local,
+        h.local.micros(),
         sign(h.pos),
         h.price.to_bits(),
         yielded(h.bp)
@@ -96,24 +96,42 @@ fn the_season_is_printed_as_by_the_run_program() -> Result<(), Refusal> {
     Ok(())
 }
 
+/// Each line of the comma file is answered as its bar is, and leaves the same book, byte for byte.
+#[test]
+fn the_comma_file_says_the_season() -> Result<(), Refusal> {
+    let season = example("season");
+    let (sheet, lines) = season.split_once("-\n").unwrap();
+    assert_eq!(example("comma/sheet"), sheet);
+    let table = Table::compile(sheet)?;
+    let (mut by_number, mut by_line) = (Book::fresh(20)?, Book::fresh(20)?);
+    let (bars, comma) = (bars(lines), example("comma/bars.csv"));
+    assert_eq!(comma.lines().count(), bars.len());
+    for ((bar, signals), line) in bars.into_iter().zip(comma.lines()) {
+        let decision = by_line.feed_line(&table, line, &signals);
+        assert_eq!(decision, by_number.feed(&table, bar, &signals), "{line}");
+        assert_eq!(by_line, by_number, "{line}");
+    }
+    Ok(())
+}
+
 #[test]
 fn refusals_change_nothing_and_say_why() -> Result<(), Refusal> {
     let table = Table::compile("P|soy|M1|0|5|100|0\n")?;
     let mut book = Book::fresh(2)?;
     let first = Bar {
         id: 1,
-        instant: 10,
+        instant: Instant(10_000_000),
         offset: 0,
         price: 1.0,
     };
     book.feed(&table, first, "")?;
     let before = book.clone();
     let late = Bar {
-        instant: 9,
+        instant: Instant(9_999_999),
         ..first
     };
     let infinite = Bar {
-        instant: 11,
+        instant: Instant(10_000_001),
         price: f64::INFINITY,
         ..first
     };
@@ -122,6 +140,13 @@ fn refusals_change_nothing_and_say_why() -> Result<(), Refusal> {
     assert_eq!(book.feed(&table, infinite, ""), Err(Refusal::BarOutOfRange));
     assert_eq!(book.feed(&table, first, twice), Err(Refusal::KeyTwice));
     assert_eq!(book.feed(&table, first, [0xff]), Err(Refusal::NotUtf8));
+    let mut line = |line: &[u8]| book.feed_line(&table, line, "").map_err(Refusal::number);
+    assert_eq!(line(b"2,1970-01-01 00:00:10+00:00,1"), Err(13));
+    assert_eq!(line(b"2,1970-01-01 00:00:11+00:00,1\r"), Err(16));
+    assert_eq!(line(b"2,1970-01-01 00:00:60+00:00,1"), Err(16));
+    assert_eq!(line(b"2,1970-02-29 00:00:11+00:00,1.1234567"), Err(16));
+    assert_eq!(line(b"2,1970-02-28 00:00:11+00:00,1.1234567"), Err(17));
+    assert_eq!(line(b"2147483648,1970-02-28 00:00:11+00:00,1"), Err(11));
     assert_eq!(book.restore(&table, &[0; 96]), Err(Refusal::WrongLength));
     assert_eq!(book.restore(&table, &[1; 224]), Err(Refusal::NotBook));
     assert_eq!(Book::fresh(1_000_001), Err(Refusal::WrongLength));

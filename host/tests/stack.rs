@@ -19,16 +19,19 @@ struct Lent {
     rows: Vec<u8>,
     /// A bar's signals, for each event that they are to choose; the last chooses none.
     signals: Vec<String>,
+    /// The season's bars again, as later lines of the exchange's file, with as many digits as they may have.
+    lines: Vec<String>,
 }
 
 /// A call by its name, and its number on what it is lent: 0, so that it went all its way.
 type Call = (&'static str, fn(&mut Lent) -> u32);
 
 /// Every exported call, in an order in which none is refused.
-const CALLS: [Call; 14] = [
+const CALLS: [Call; 15] = [
     ("compile", |a| raw::compile(&a.text, &mut a.table)),
     ("fresh", |a| raw::fresh(&mut a.book)),
     ("feed", feeds),
+    ("feed_line", feed_lines),
     ("save", |a| raw::save(&a.table, &a.book, &mut a.image)),
     ("restore", |a| raw::restore(&a.table, &mut a.book, &a.image)),
     ("pair_row", |a| {
@@ -78,6 +81,21 @@ fn feeds(a: &mut Lent) -> u32 {
     number
 }
 
+fn feed_lines(a: &mut Lent) -> u32 {
+    let mut number = 0;
+    for (line, (event, _)) in a.lines.iter().zip(SEASON) {
+        let signals = a.signals[event].as_bytes();
+        number |= raw::feed_line(&a.table, &mut a.book, line.as_bytes(), signals).number;
+    }
+    number
+}
+
+/// Bar number i of the season as a line: an id of ten digits, a late day, a price of fifteen digits.
+fn line(i: usize) -> String {
+    let (id, day, price) = (2_147_483_600 + i, 1 + i, SEASON[i].1);
+    format!("{id},2099-12-{day:02} 23:59:59-23:59,{price:016.6}")
+}
+
 /// A sheet at the limits: 32 events, 256 clauses, each with a key and a value of its own, and names of 256 bytes.
 fn sheet() -> String {
     let long = |letter: &str| letter.repeat(raw::NAME_LIMIT);
@@ -110,6 +128,7 @@ fn lent() -> Lent {
         image: vec![0; raw::book_length(900)],
         rows: vec![0; 1 << 16],
         signals: (0..=32).map(signals).collect(),
+        lines: (0..SEASON.len()).map(line).collect(),
     }
 }
 

@@ -1,6 +1,8 @@
 //! Comparing the library with the model: the calls, their arguments, and one comparison.
 
 pub mod books;
+mod boundaries;
+pub mod lines;
 pub mod numbers;
 pub mod round;
 pub mod tables;
@@ -17,6 +19,8 @@ const SHOWN: usize = 100_000;
 #[derive(Clone, Default, PartialEq)]
 pub struct Arguments {
     pub text: Vec<u8>,
+    /// A comma line.
+    pub line: Vec<u8>,
     pub table: Vec<u8>,
     pub book: Vec<u8>,
     pub image: Vec<u8>,
@@ -43,6 +47,7 @@ impl Arguments {
     fn show(&self) -> String {
         let bytes = [
             ("text", &self.text),
+            ("line", &self.line),
             ("table", &self.table),
             ("book", &self.book),
             ("image", &self.image),
@@ -133,6 +138,15 @@ pub const FEED: Call = call!(
     f64::from_bits(a.price),
     &a.text
 );
+pub const FEED_LINE: Call = call!(
+    feed_line,
+    [0, 1, 2, 7, 8, 9, 10, 11, 12, 13, 14, 16, 17],
+    a,
+    &a.table,
+    &mut a.book,
+    &a.line,
+    &a.text
+);
 pub const SAVE: Call = call!(save, [0, 8, 9, 10], a, &a.table, &a.book, &mut a.image);
 pub const RESTORE: Call = call!(restore, [0, 8, 9, 10], a, &a.table, &mut a.book, &a.image);
 pub const PAIR_ROW: Call = call!(
@@ -176,10 +190,11 @@ pub const SIGNAL: Call = call!(signal, [0, 1, 2, 5, 6, 7, 8], a, &a.text, &mut a
 pub const OPERATE: Call = call!(operate, [0, 1, 2, 4, 7], a, &a.text);
 pub const OPERATE_NAME: Call = call!(operate_name, [0, 4, 8], a, a.code, &mut a.buffer);
 
-pub const CALLS: [&Call; 14] = [
+pub const CALLS: [&Call; 15] = [
     &COMPILE,
     &FRESH,
     &FEED,
+    &FEED_LINE,
     &SAVE,
     &RESTORE,
     &PAIR_ROW,
@@ -197,7 +212,7 @@ pub const CALLS: [&Call; 14] = [
 #[derive(Default)]
 pub struct Comparison {
     pub seed: u64,
-    pub counts: BTreeMap<&'static str, [u64; 16]>,
+    pub counts: BTreeMap<&'static str, [u64; 32]>,
     /// How often nothing, an event, the stop and the timeout decided a bar.
     pub decisions: [u64; 4],
 }
@@ -213,7 +228,7 @@ impl Comparison {
             self.tell(call, arguments, (answer, ours), (expected, model));
         }
         self.counts.entry(call.name).or_default()[answer[0] as usize] += 1;
-        if call.name == FEED.name && answer[0] == 0 {
+        if [FEED.name, FEED_LINE.name].contains(&call.name) && answer[0] == 0 {
             self.decisions[answer[3] as usize] += 1;
         }
         (answer[0], ours)

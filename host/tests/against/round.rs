@@ -13,6 +13,8 @@ struct Round<'a> {
     /// The table, the book and the image of the season as they stand.
     arguments: Arguments,
     events: usize,
+    /// Whether bars are fed as comma lines too.
+    by_line: bool,
 }
 
 /// Runs the round of a seed.
@@ -22,11 +24,13 @@ pub fn round(comparison: &mut Comparison, seed: u64) {
     let season = inputs::season(&mut rng);
     let text = season.sheet.text().into_bytes();
     let table = buffer(&mut rng, TABLE_LENGTH);
+    let by_line = rng.once_in(3);
     let mut round = Round {
         rng,
         comparison,
         arguments: Arguments::compiling(&text, table),
         events: season.sheet.events.len(),
+        by_line,
     };
     round.keep(&COMPILE);
     round.alone();
@@ -153,16 +157,46 @@ impl Round<'_> {
         }
     }
 
+    /// A feed by numbers, or, in some seasons every other time, by a comma line.
+    fn feeding(&mut self) -> &'static Call {
+        if self.by_line && self.rng.once_in(2) {
+            &FEED_LINE
+        } else {
+            &FEED
+        }
+    }
+
     fn feed(&mut self, bar: &Bar) {
         self.arguments.id = bar.id;
         self.arguments.instant = bar.instant;
         self.arguments.offset = bar.offset;
         self.arguments.price = bar.price.to_bits();
         self.arguments.text = bar.signals_text().into_bytes();
-        self.keep(&FEED);
+        self.arguments.line = lines::of_bar(&mut self.rng, &self.arguments);
+        let call = self.feeding();
+        self.keep(call);
         if self.rng.once_in(2) {
             self.wrong_feed();
         }
+        for _ in 0..self.rng.below(3) {
+            self.wrong_line();
+        }
+    }
+
+    /// A feed of any comma line of a bar a little later; now and then with another wrong argument or with two.
+    fn wrong_line(&mut self) {
+        let mut arguments = self.arguments.clone();
+        let later = self.rng.between(-1, 90_000_000_000);
+        arguments.instant = arguments.instant.saturating_add(later);
+        arguments.line = lines::any(&mut self.rng, &arguments);
+        for _ in 0..self.rng.below(6).saturating_sub(3) {
+            match self.rng.below(4) {
+                0 => arguments.table = self.faulty_table(&arguments.table),
+                1 => arguments.book = self.faulty_book(&arguments.book),
+                _ => arguments.text = self.faulty_signals(&arguments.text),
+            }
+        }
+        self.run(&FEED_LINE, &arguments);
     }
 
     /// A feed of a bar a little later with one wrong argument, or with two.
@@ -302,7 +336,9 @@ impl Round<'_> {
             arguments.instant = end.saturating_add(*self.rng.pick(&times));
             arguments.id = i64::from(id) + self.rng.between(-1, 7);
             arguments.offset = *self.rng.pick(&[0, 28_800, -86_399]);
-            arguments = self.run(&FEED, &arguments).1;
+            arguments.line = lines::of_bar(&mut self.rng, &arguments);
+            let call = self.feeding();
+            arguments = self.run(call, &arguments).1;
         }
     }
 }

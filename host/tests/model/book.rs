@@ -377,7 +377,13 @@ pub fn feed(
     price: f64,
     signals: &[u8],
 ) -> FeedAnswer {
-    let answer = fed(table, book, bar_of(id, instant, offset, price), signals);
+    let bar = bar_of(id, instant, offset, price);
+    feed_bar(table, book, bar, signals)
+}
+
+/// A feed of a bar, or of what is refused in its place after the book's check.
+pub fn feed_bar(table: &[u8], book: &mut [u8], bar: Answer<Bar>, signals: &[u8]) -> FeedAnswer {
+    let answer = fed(table, book, bar, signals);
     let number = number(&answer);
     let Ok(fed) = answer else {
         return FeedAnswer {

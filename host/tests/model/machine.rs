@@ -8,7 +8,7 @@ pub const LE: u8 = 4;
 pub const SO: u8 = 5;
 pub const SE: u8 = 6;
 const HO: u8 = 2;
-const SECOND: i64 = 1_000_000;
+pub const SECOND: i64 = 1_000_000;
 const DAY: i64 = 86_400_000_000;
 
 /// An instant in microseconds, UTC, and an offset in seconds.

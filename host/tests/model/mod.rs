@@ -1,8 +1,10 @@
-//! A model of document 01 in plain Rust, written from its text: one file for each of its headings and one for what goes beyond it, every call with the
-//! arguments, the answer and the lent bytes of the exported one. It knows nothing of the library but the shapes of the answers.
+//! A model of document 01 in plain Rust, written from its text: one file for each of its headings, one for what goes
+//! beyond it and one for the comma lines of document 02, every call with the arguments, the answer and the lent bytes
+//! of the exported one. It knows nothing of the library but the shapes of the answers.
 
 pub mod blocks;
 pub mod book;
+pub mod line;
 pub mod machine;
 pub mod matching;
 pub mod rows;
@@ -11,6 +13,7 @@ pub mod texts;
 
 pub use blocks::{counts, hold_rows, pair_rows};
 pub use book::{feed, fresh, restore, save};
+pub use line::feed_line;
 pub use rows::{event_name, hold_row, pair_row};
 pub use table::compile;
 pub use texts::{operate, operate_name, signal};
