@@ -7,7 +7,8 @@ use mathlib.Core.Logic.{_⊎_, inl, inr, ⊎-elim}
 use lib.Dec.{leb}
 use borrow.Author.Tests.{leb-true, ne-eqb}
 use Rattle.text.specs.Number.{within}
-use Rattle.calendar.specs.Calendar.{leapYear, monthLength, monthsBefore, yearsBefore, monthFirst, dayNumber, realDay, Month}
+use Rattle.calendar.proofs.Forms.{years}
+use Rattle.calendar.specs.Calendar.{monthLength, monthsBefore, yearsBefore, monthFirst, dayNumber, realDay, Month}
 
 -- what a day that there is says of its parts
 pub record Day (y m d : ℕ) : Type 0 where
@@ -50,30 +51,13 @@ long-month y m a b =
       ne-eqb m 11 (λ e. b (inr (inr (inr e)))),
     )
 
--- sums of days grow
-grows : (f : ℕ → ℕ) → ((k : ℕ) → f k ≤ f (suc k)) → (i n : ℕ) → f i ≤ f (i + n)
-grows f h i zero = let e : i + 0 ≡ i = omega arith in rw e (omega arith)
-grows f h i (suc n) =
-    let e : i + suc n ≡ suc (i + n) = omega arith in
-    rw e (omega (arith, h (i + n), grows f h i n))
-
-upwards : (f : ℕ → ℕ) → ((k : ℕ) → f k ≤ f (suc k)) → (i n : ℕ) → i ≤ n → f i ≤ f n
-upwards f h i n le =
-    let e : i + (n - i) ≡ n = omega arith in
-    rw e at (grows f h i (n - i))
-
-month-up : (y k : ℕ) → monthsBefore y k ≤ monthsBefore y (suc k)
+-- the days of more months are not fewer
+grows : (y i n : ℕ) → monthsBefore y i ≤ monthsBefore y (i + n)
 unfolding monthsBefore
-month-up y k = omega arith
-
-year-up : (k : ℕ) → yearsBefore k ≤ yearsBefore (suc k)
-unfolding yearsBefore
-year-up k = omega arith
-
--- 47,482 days from 1970 to 2099
-all-days : yearsBefore 130 ≡ 47_482
-unfolding yearsBefore monthsBefore monthLength leapYear
-all-days = refl
+grows y i zero = let e : i + 0 ≡ i = omega arith in rw e (omega arith)
+grows y i (suc n) =
+    let e : i + suc n ≡ suc (i + n) = omega arith in
+    rw e (omega (arith, grows y i n))
 
 month-end : (y m : ℕ) → 1 ≤ m → monthsBefore y (m - 1) + monthLength y m ≡ monthsBefore y m
 unfolding monthsBefore
@@ -84,17 +68,17 @@ year-end : (y : ℕ) → 1970 ≤ y → yearsBefore (y - 1970) + monthsBefore y 
 unfolding yearsBefore
 year-end y h = let e : 1970 + (y - 1970) ≡ y = omega arith in rw e
 
--- no month ends after them
-pub month-below : {y m : ℕ} → Month y m → monthFirst y m + monthLength y m ≤ 47_482
+-- no month ends after the 47,482 days of these years
+month-below : {y m : ℕ} → Month y m → monthFirst y m + monthLength y m ≤ 47_482
 unfolding monthFirst
 month-below {y} {m} r =
+    let e : m + (12 - m) ≡ 12 = omega arith in
     omega (
       arith,
       month-end y m (r .first),
-      upwards (monthsBefore y) (month-up y) m 12 (r .last),
+      rw e at (grows y m (12 - m)),
       year-end y (r .from),
-      upwards yearsBefore year-up (suc (y - 1970)) 130 (omega arith),
-      all-days,
+      years (suc (y - 1970)) (omega arith),
     )
 
 -- each of them is among these

@@ -1,14 +1,8 @@
 // The Gregorian calendar of the years 1970 to 2099: which days there are, and the number of each, counted from 1970-01-01.
 ghost use mathlib.Core.Path.{_≡_};
 ghost use mathlib.Core.Bool.{true};
-ghost use lib.IntN.{pos};
 ghost use Prim.Native.Nat.{_<_};
 ghost use Rattle.calendar.specs.Calendar.{leapYear, monthLength, monthFirst, dayNumber, realDay, Month};
-ghost use Rattle.calendar.specs.Table.{monthSteps};
-
-mod months;
-
-use months::MONTH_FIRST;
 
 // Whether a year is a leap year.
 fn leap_year(y: u64) -> bool
@@ -61,20 +55,17 @@ pub fn is_day(y: u64, m: u64, d: u64) -> bool
     d <= month_length(y, m)
 }
 
-// The number of the first of a month, from a table that keeps the month-step rule.
-fn entry(t: &[i32; 1560], y: u64, m: u64) -> i32
-    requires { ⌜ monthSteps (now t) ≡ true ⌝ ∗ ⌜ Month y m ⌝ }
-    ensures { λ r. ⌜ r ≡ pos (monthFirst y m) ⌝ }
-{
-    t[((y - 1970) * 12 + (m - 1)) as usize]
-}
-
-// The number of the first of a month.
+// The number of the first of a month. Of these years every fourth has a leap day, which counts from March on; and from March on the months
+// are 31, 30, 31, 30 and 31 days long, again and again.
 fn month_first(y: u64, m: u64) -> u64
     requires { ⌜ Month y m ⌝ }
     ensures { λ r. ⌜ r ≡ monthFirst y m ⌝ }
 {
-    entry(&MONTH_FIRST, y, m) as u64
+    let years = 365 * (y - 1970);
+    if m <= 2 {
+        return years + (y - 1969) / 4 + 31 * (m - 1);
+    }
+    years + (y - 1968) / 4 + 59 + (153 * (m - 3) + 2) / 5
 }
 
 // The number of a day, of which there are 47,482.
