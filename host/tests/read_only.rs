@@ -1,11 +1,11 @@
-//! What the archive takes of the host's memory beside its code and the stack: a few constants, which are read only. No table is among them,
-//! of dates or of anything that is as long. `cargo test --release --test read_only -- --nocapture` prints the figures.
+//! What the archive takes of the host's memory beside its code and the stack: a few constants, read only, and no table of dates among them.
+//! `cargo test --release --test read_only -- --nocapture` prints the figures.
 
 use std::path::Path;
 use std::process::Command;
 
-/// What all constants may take together. They take 944 bytes: a table of months, of ours or as the compiler makes them of a `match`, passes
-/// it. Who has to raise it looks first at what came (`objdump -s -j SECTION`).
+/// What all constants may take together. They take 944 bytes: more than 24 dates of four bytes, ours or as the compiler would keep a `match`,
+/// go past it. Who has to raise it looks first at what came (`objdump -s -j SECTION`).
 const LIMIT: usize = 1_024;
 
 /// A section that the host loads and that is no code.
