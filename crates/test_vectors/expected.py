@@ -10,6 +10,7 @@ import re
 import struct
 import sys
 from datetime import date
+from decimal import Decimal
 from fractions import Fraction
 
 WILDCARD = "任意".encode()
@@ -142,6 +143,25 @@ def stop_hit(side, stop, reference, price):
     return share(side, price, reference) < -stop / 10000
 
 
+# ---- stops (document 02, W2)
+
+
+def stop_of(text):
+    """Digits, perhaps a point and one or two decimals, at most 1,000,000, as hundredths; else None."""
+    if not re.fullmatch(rb"[0-9]{1,10}(\.[0-9]{1,2})?", text):
+        return None
+    stop = Decimal(text.decode())
+    return int(stop * 100) if stop <= 1_000_000 else None
+
+
+def stop_shown(hundredths):
+    """The fewest decimals that say the stop, and its double."""
+    text = f"{Decimal(hundredths) / 100:.2f}".rstrip("0").removesuffix(".")
+    double = hundredths / 100
+    assert float(text) == double
+    return joined(text.encode(), bits(double))
+
+
 # ---- one answer for each letter
 
 
@@ -185,6 +205,8 @@ WHOLE = {
     b"X": lambda s: operate(bytes.fromhex(s.decode())),
     b"Y": lambda s: signal(bytes.fromhex(s.decode())),
     b"W": lambda s: b"%d|%016x" % (int(s, 16), int(s, 16)),
+    b"Z": lambda s: or_else(b"-", joined, stop_of(s)),
+    b"z": lambda s: stop_shown(int(s)),
 }
 
 # Letters whose question is fields.

@@ -11,7 +11,7 @@ use lib.Seq.{slice}
 use Rattle.text.specs.Answer.{Answer, Refused, Got, _>>=_, must, given}
 use Rattle.text.specs.Conditions.{anyOf}
 use Rattle.text.specs.Number.{natural, atMost, digitsTo}
-use Rattle.text.specs.Text.{empty, split, joined}
+use Rattle.text.specs.Text.{point, empty, split, joined}
 use Rattle.double.specs.Double.{whole, _÷_}
 use Rattle.calendar.specs.Calendar.{realDay, dayNumber}
 use Rattle.bar.specs.declared.BarNumbers.{BarNumbers}
@@ -31,9 +31,6 @@ colon = 58
 
 abbrev pub plusSign : ℕ
 plusSign = 43
-
-abbrev pub point : ℕ
-point = 46
 
 -- ---- "YYYY-MM-DD HH:MM:SS+HH:MM": numbers and marks, each at its place
 

@@ -14,13 +14,13 @@ use Rattle.text.specs.Answer.{Answer, Refused, Got, _>>=_, given}
 use Rattle.text.specs.Conditions.{every, anyOf}
 use Rattle.text.specs.Number.{digitsBehind, natural}
 use Rattle.text.specs.Read.{Part, FirstAt}
-use Rattle.text.specs.Text.{onto, split, joined}
+use Rattle.text.specs.Text.{point, onto, split, joined}
 use Rattle.text.proofs.Answers.{refused-then}
 use Rattle.text.proofs.Every.{every-cons}
 use Rattle.text.proofs.Laws.{part-end}
 use Rattle.text.proofs.Parts.{split-some, split-next, split-last, onto-count}
 use Rattle.double.specs.Double.{whole, _÷_}
-use Rattle.bar_line.specs.Line.{point, Decimal, decimalIn, doubleOf, priceOf}
+use Rattle.bar_line.specs.Line.{Decimal, decimalIn, doubleOf, priceOf}
 use Rattle.bar_line_price.specs.Read.{isNumber, areDigits, wholePart, fraction, Pointed}
 use Rattle.bar_line_price.proofs.Digits.{isDigit, digit-in, natural-digits, natural-behind, natural-append}
 

@@ -10,8 +10,7 @@ use lib.Seq.{slice}
 use Rattle.text.specs.Answer.{Answer, Refused, Got}
 use Rattle.text.specs.Number.{digitsBehind, natural}
 use Rattle.text.specs.Read.{Part}
-use Rattle.text.specs.Text.{split}
-use Rattle.bar_line.specs.Line.{point}
+use Rattle.text.specs.Text.{point, split}
 use Rattle.bar_line_price.specs.declared.PriceRead.{PriceRead}
 use Rattle.bar_line_price.specs.declared.PriceRead.the-variants.{Is, Long, Bad}
 

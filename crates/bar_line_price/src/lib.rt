@@ -5,9 +5,9 @@ ghost use mathlib.Core.List.{[], _∷_};
 ghost use Prim.Native.Nat.{_^_, _≤_};
 ghost use lib.Seq.{slice};
 ghost use Rattle.text.specs.Read.{Part};
-ghost use Rattle.text.specs.Text.{split};
+ghost use Rattle.text.specs.Text.{point, split};
 ghost use Rattle.double.specs.Double.{whole, _÷_};
-ghost use Rattle.bar_line.specs.Line.{point, priceOf};
+ghost use Rattle.bar_line.specs.Line.{priceOf};
 ghost use Rattle.bar_line_price.specs.Read.{priceReadOf, areDigits, Behind, Continued, Pointed};
 
 // A price's double, or that it has too many digits, or departs from the form.

@@ -45,9 +45,8 @@ share-signed nan h = h
 share-signed (inf t) h = rw h refl
 share-signed (fin t m e) h = rw h (round-signed binary64 true (m * up e * 1) (625 * 16 * down e))
 
-limit-signed : (stop : ℕ) → Signed true (neg (whole stop) ÷ whole 10000)
-unfolding ofInt
-limit-signed stop = share-signed (neg (whole stop)) (neg-signed (whole stop) (round-signed binary64 false stop 1))
+limit-signed : (stop : Float) → Signed false stop → Signed true (neg stop ÷ whole 10000)
+limit-signed stop h = share-signed (neg stop) (neg-signed stop h)
 
 zero-not-below : (x : Float) → Signed true x → lt (whole 0) x ≡ false
 unfolding lt ofInt
@@ -57,12 +56,13 @@ zero-not-below (fin t m e) h = rw h refl
 
 -- ---- so the own price hits nothing
 
-pub own-price : (side : Side) (stop : ℕ) (p : Float) → stopHit side (whole stop) p p ≡ false
+pub own-price : (side : Side) (stop : Float) → Signed false stop → (p : Float) → stopHit side stop p p ≡ false
 unfolding stopHit gain div sub add neg lt ofInt
-own-price Long stop nan = refl
-own-price Short stop nan = refl
-own-price Long stop (inf t) = refl
-own-price Short stop (inf t) = refl
-own-price Long stop (fin t zero e) = refl
-own-price Short stop (fin t zero e) = refl
-own-price side stop (fin t (suc m) e) = ap (λ (x : Float). lt x (neg (whole stop) ÷ whole 10000)) (own-gain side t m e) ∙ zero-not-below (neg (whole stop) ÷ whole 10000) (limit-signed stop)
+own-price Long stop h nan = refl
+own-price Short stop h nan = refl
+own-price Long stop h (inf t) = refl
+own-price Short stop h (inf t) = refl
+own-price Long stop h (fin t zero e) = refl
+own-price Short stop h (fin t zero e) = refl
+own-price side stop h (fin t (suc m) e) =
+    ap (λ (x : Float). lt x (neg stop ÷ whole 10000)) (own-gain side t m e) ∙ zero-not-below (neg stop ÷ whole 10000) (limit-signed stop h)

@@ -33,6 +33,8 @@ fn answer(s: &[u8]) {
         b'W' => test_vectors_numbers::written(rest),
         b'X' => test_vectors_texts::operate_bytes(rest),
         b'Y' => test_vectors_texts::signal_bytes(rest),
+        b'Z' => test_vectors_numbers::stop_field(rest),
+        b'z' => test_vectors_numbers::stop_shown(rest),
         _ => show::text(b"?"),
     }
 }

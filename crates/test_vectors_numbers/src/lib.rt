@@ -126,6 +126,27 @@ pub fn stop(s: &[u8]) {
     show::flag(double::stop_hit(side, stop, reference, price));
 }
 
+// Z|field: the hundredths that it says as a sheet's stop.
+pub fn stop_field(s: &[u8]) {
+    match stop::read_stop(s, 0, s.len(), 100_000_000) {
+        Number::Is(h) => show::number(h),
+        Number::Bad => show::text(b"-"),
+    }
+}
+
+// z|hundredths: the text and the double of a stop.
+pub fn stop_shown(s: &[u8]) {
+    let h = ask::number(s);
+    if 100_000_000 < h {
+        return;
+    }
+    let mut space = [0u8; 23];
+    let n = stop::put_stop(&mut space, 0, h);
+    show::part(&space, 0, n);
+    next();
+    show::real(stop::stop_double(h));
+}
+
 // T|instant|offset: the local time and its day.
 pub fn time(s: &[u8]) {
     let instant = ask::instant(field(s, 0));

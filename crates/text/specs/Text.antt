@@ -13,6 +13,10 @@ LF = 10
 abbrev pub pipe : ℕ
 pipe = 124
 
+-- what stands before the decimals of a number
+abbrev pub point : ℕ
+point = 46
+
 -- "parts between underscores"
 abbrev pub underscore : ℕ
 underscore = 95

@@ -17,7 +17,7 @@ use Rattle.text.proofs.Laws.{part-cons, part-nil}
 
 -- ---- digits, one after another
 
-digits-none : (l : List ℕ) → digitsBehind none l ≡ none
+pub digits-none : (l : List ℕ) → digitsBehind none l ≡ none
 unfolding digitsBehind
 digits-none [] = refl
 digits-none (x ∷ t) = digits-none t
@@ -56,6 +56,18 @@ module _ {s : List ℕ} {from to v i : ℕ} (r : Reading s from to v i) where
 
       pub reading-more : getD s i 0 ≤ 57 → (d : ℕ) → d ≡ getD s i 0 - 48 → Reading s from to (v * 10 + d) (i + 1)
       reading-more u d e = record { left = omega arith; begun = omega arith; same = next ∙ rw (le-leb _ _ l, le-leb _ _ u, e) }
+
+-- ---- a number that is not above a limit
+
+pub at-most : (hi : ℕ) (o : Option ℕ) {v : ℕ} → some v ≡ atMost hi o → v ≤ hi
+at-most hi none e = absurd (let z : _≡_ {A = ℕ} 0 1 = cc in omega arith)
+at-most hi (some w) {v} e = go (leb w hi) refl e
+  where
+    go : (t : Bool) → leb w hi ≡ t → some v ≡ cond t (some w) none → v ≤ hi
+    go true h k =
+        let g : v ≡ w = cc in
+        omega (arith, leb-true w hi h)
+    go false h k = absurd (let z : _≡_ {A = ℕ} 0 1 = cc in omega arith)
 
 -- ---- `magnitude`: any number of digits, so that the value is cut at hi
 

@@ -1,2 +1,3 @@
 -- The laws of numbers that are written.
 pub mod Written
+pub mod Back

@@ -16,11 +16,11 @@ use Rattle.text.proofs.Put.{patch-none, patch-front, put-patch}
 
 -- ---- in decimal
 
-decimal-more : (k n : ℕ) (l : List ℕ) → 10 ≤ n → decimalFrom (suc k) n l ≡ decimalFrom k (n / 10) ((48 + n % 10) ∷ l)
+pub decimal-more : (k n : ℕ) (l : List ℕ) → 10 ≤ n → decimalFrom (suc k) n l ≡ decimalFrom k (n / 10) ((48 + n % 10) ∷ l)
 unfolding decimalFrom
 decimal-more k n l h = rw (le-ltb n 10 h)
 
-decimal-done : (k n : ℕ) (l : List ℕ) → n < 10 → decimalFrom (suc k) n l ≡ (48 + n) ∷ l
+pub decimal-done : (k n : ℕ) (l : List ℕ) → n < 10 → decimalFrom (suc k) n l ≡ (48 + n) ∷ l
 unfolding decimalFrom
 decimal-done k n l h = rw (lt-ltb n 10 h)
 
@@ -35,7 +35,7 @@ two : (n j : ℕ) → n < 10 ^ suc j → 10 ≤ n → 1 ≤ j
 two n zero h k = absurd (omega arith)
 two n (suc j) h k = omega arith
 
-length-from : (k n : ℕ) (l : List ℕ) (j : ℕ) → n < 10 ^ suc j → length (decimalFrom k n l) ≤ suc j + length l
+pub length-from : (k n : ℕ) (l : List ℕ) (j : ℕ) → n < 10 ^ suc j → length (decimalFrom k n l) ≤ suc j + length l
 unfolding decimalFrom
 length-from zero n l j h = omega arith
 length-from (suc k) n l j h =

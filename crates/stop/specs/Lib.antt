@@ -1,0 +1,2 @@
+-- The definitions of stops.
+pub mod Stop
