@@ -1,6 +1,6 @@
 #!/usr/bin/env python3
 """A plain model of document 01: sheets, matching, the machine, the book's bytes and checks, rows, the run program; and
-of document 02, W1: the exchange's comma lines.
+of document 02: W1, the exchange's comma lines, and W2, stops in hundredths of a basis point.
 
 It is independent of the definitions and of the code: it was written before they were read. (One line was changed after that:
 `choose` asks openings before exits in a table that mixes them.) Tables are left out: a call here takes the sheet.
@@ -91,6 +91,32 @@ def unsigned(b, top):
     if not digits(b, 1, 10) or int(b) > top:
         raise Refused(3)
     return int(b)
+
+
+STOP = re.compile(rb"([0-9]{1,10})(?:\.([0-9]{1,2}))?")
+
+
+def read_stop(b):
+    """a stop in hundredths (02, W2): digits, perhaps a point and one or two decimals, at most 1,000,000; else 3"""
+    form = STOP.fullmatch(b)
+    if form is None:
+        raise Refused(3)
+    whole, behind = form.groups(default=b"")
+    stop = Fraction(int(whole)) + Fraction(int(behind or b"0"), 10 ** len(behind))
+    if stop > 1_000_000:
+        raise Refused(3)
+    return int(stop * 100)
+
+
+def stop_double(hundredths):
+    """a stop's double: hundredths divided by 100, rounded once"""
+    return float(hundredths) / 100.0
+
+
+def stop_text(hundredths):
+    """as the Rust shows that double: the shortest decimals that read back, and none where it is whole"""
+    said = repr(stop_double(hundredths))
+    return said[:-2] if said.endswith(".0") else said
 
 
 def read_i32(b):
@@ -207,7 +233,7 @@ def read_sheet(text):
             sh.symbol = name_field(f[2])
             sh.interval = unsigned(f[3], 4_102_444_800)
             sh.timeout = unsigned(f[4], 2_147_483_647)
-            sh.stop = unsigned(f[5], 1_000_000)
+            sh.stop = read_stop(f[5])
             sh.t0 = unsigned(f[6], 1)
         elif tag in (b"O", b"X"):
             if len(f) != 3:
@@ -370,7 +396,7 @@ def step(sh, st, bar, d):
             st.pos = FLAT
             rec(close, 1)
     price = of_bits(bar.price)
-    limit = div(-float(sh.stop), 10000.0)
+    limit = div(-stop_double(sh.stop), 10000.0)
     # steps 5 and 6
     for close, pos, own, gain in ((LE, LONG, "lo", lambda q: q - 1.0), (SE, SHORT, "so", lambda q: 1.0 - q)):
         if st.pos != pos or st.ref is None or not free(getattr(st, own)):
@@ -688,7 +714,7 @@ def desc_text(sh, r):
         return sh.events[r.event].name
     side = "平空" if r.op == SE else "平多"
     if r.desc == 2:
-        return f"{side}@{sh.stop}BP止损".encode()
+        return f"{side}@{stop_text(sh.stop)}BP止损".encode()
     return f"{side}@{sh.timeout}K超时".encode()
 
 
@@ -846,6 +872,7 @@ if __name__ == "__main__":
     assert run(CASE1) == OUT1, run(CASE1).decode()
     assert rnd(2.5) == 3.0 and rnd(-2.5) == -3.0 and bits(rnd(-0.3)) == 1 << 63
     assert rnd(0.49999999999999994) == 0.0
+    assert [stop_text(h) for h in (1250, 725, 5, 50_000, 0, 100_000_000)] == ["12.5", "7.25", "0.05", "500", "0", "1000000"]
     plain = read_sheet(b"P|soy|M1|0|5|100|0\n")
     one = feed(plain, fresh(bytes(160))[1], Bar(1, 0, 0, bits(1.0)), b"")[1]
     assert [hold_row(plain, one, i)[0] for i in (-1, 0, 1)] == [15, 0, 15]

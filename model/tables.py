@@ -13,6 +13,8 @@ import model
 from model import ANY, Refused
 
 LENGTH = 32_768
+LAYOUT = 0xFF00_0002
+HEAD = 80
 WILD = 65_535
 KINDS = [b"A", b"Y", b"N"]
 
@@ -54,10 +56,10 @@ def table_of(sh):
             codes = [WILD if v == ANY else values.number(v) + 1 for v in c.vs]
             clauses += struct.pack("<6H", KINDS.index(c.kind), key, *codes, c.score)
     parts = [events, clauses, keys.rows(), values.rows(), sh.name + sh.symbol, names, keys.texts(), values.texts()]
-    places = [76]
+    places = [HEAD]
     for p in parts:
         places.append(places[-1] + len(p))
-    head = struct.pack("<4I", sh.interval, sh.timeout, sh.stop, sh.t0)
+    head = struct.pack("<5I", LAYOUT, sh.interval, sh.timeout, sh.stop, sh.t0)
     head += struct.pack("<6I", len(sh.events), first, len(keys.words), len(values.words), len(sh.name), len(sh.symbol))
     head += struct.pack("<9I", *places)
     used = head + b"".join(parts)
@@ -106,12 +108,13 @@ def words_of(rows, texts, parts):
 def read_table(t):
     """the sheet that a table means; 9 where it is none"""
     need(len(t) == LENGTH)
-    interval, timeout, stop, t0 = struct.unpack_from("<4I", t, 0)
-    need(interval <= 4_102_444_800 and timeout <= 2_147_483_647 and stop <= 1_000_000 and t0 <= 1)
-    e, c, k, v, name, symbol = struct.unpack_from("<6I", t, 16)
+    layout, interval, timeout, stop, t0 = struct.unpack_from("<5I", t, 0)
+    need(layout == LAYOUT)
+    need(interval <= 4_102_444_800 and timeout <= 2_147_483_647 and stop <= 100_000_000 and t0 <= 1)
+    e, c, k, v, name, symbol = struct.unpack_from("<6I", t, 20)
     need(e <= 32 and c <= 256 and k <= 256 and v <= 768 and name <= 256 and symbol <= 256)
-    places = struct.unpack_from("<9I", t, 40)
-    need(places[0] == 76)
+    places = struct.unpack_from("<9I", t, 44)
+    need(places[0] == HEAD)
     need([b - a for a, b in zip(places, places[1:6])] == [12 * e, 12 * c, 8 * k, 8 * v, name + symbol])
     need(list(places) == sorted(places) and places[8] <= LENGTH)
 

@@ -53,10 +53,20 @@ const WRONG_IN_BARS: [&str; 9] = [
     "B|1|1|1|3ff0000000000000\nS|k|v|\n",
 ];
 
-/// The first number that each setting may not have, and texts that no number has.
-const PAST_THE_SETTINGS: [&str; 4] = ["4102444801", "2147483648", "1000001", "2"];
-const NO_NUMBERS: [&str; 8] = [
+/// What each setting may not have, the first number among it, and texts that are no number in any of them.
+const PAST_THE_SETTINGS: [&[&str]; 4] = [
+    &["4102444801", "1.5"],
+    &["2147483648", "1.5"],
+    &["1000001", "1000000.01", "42949672.96"],
+    &["2", "1.0"],
+];
+const NO_NUMBERS: [&str; 13] = [
     "",
+    "12.",
+    ".5",
+    "12.500",
+    "12,5",
+    "1.2.3",
     "-1",
     "+1",
     "1 ",
@@ -208,7 +218,7 @@ fn with_field(season: &Season, place: usize, field: &str) -> String {
 fn wrong_setting(rng: &mut Rng, season: &Season) -> String {
     let setting = rng.below(4);
     let wrong = if rng.once_in(2) {
-        PAST_THE_SETTINGS[setting]
+        *rng.pick(PAST_THE_SETTINGS[setting])
     } else {
         *rng.pick(&NO_NUMBERS)
     };

@@ -14,7 +14,8 @@ pub struct Ours {
     pub table: Vec<u8>,
     pub book: Vec<u8>,
     image: Option<Vec<u8>>,
-    stop: i64,
+    /// In basis points.
+    stop: f64,
     timeout: i64,
 }
 
@@ -29,7 +30,7 @@ impl Ours {
             table,
             book,
             image: None,
-            stop: sheet.stop,
+            stop: sheet.stop_points(),
             timeout: sheet.timeout,
         })
     }
@@ -75,6 +76,8 @@ impl Ours {
         let [holds, records] = [0, 4].map(|at| i32_at(&self.book, at) as usize);
         let [holds_at, records_at] = [12, 16].map(|at| i32_at(&self.book, at) as usize);
         let slots = |start: usize, count: usize| (0..count).map(move |index| start + 32 * index);
+        // One row more than there can be, so that refused requests end too.
+        let asked = || 0..=holds as i64;
         let (pos, changed) = self.standing();
         Shown {
             pos,
@@ -87,8 +90,8 @@ impl Ours {
                 .map(|at| self.record(at))
                 .collect(),
             holds: slots(holds_at, holds).map(|at| self.hold(at)).collect(),
-            pairs: (0..).map_while(|index| self.pair(index)).collect(),
-            hold_rows: (0..).map_while(|index| self.hold_row(index)).collect(),
+            pairs: asked().map_while(|index| self.pair(index)).collect(),
+            hold_rows: asked().map_while(|index| self.hold_row(index)).collect(),
         }
     }
 

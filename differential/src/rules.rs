@@ -21,7 +21,7 @@ type BarRule = (&'static str, fn(&Moment) -> bool);
 type PairRule = (&'static str, fn(&PairRow) -> bool);
 type HoldRule = (&'static str, fn(&Hold) -> bool);
 
-const OF_A_BAR: [BarRule; 26] = [
+const OF_A_BAR: [BarRule; 29] = [
     ("no event matches", |m| m.answer.decision == 0),
     ("an event without clauses matches", |m| {
         m.event().is_some_and(|event| event.clauses.is_empty())
@@ -61,6 +61,9 @@ const OF_A_BAR: [BarRule; 26] = [
         m.closes() == Some(m.before.pos) && !m.is_held()
     }),
     ("closed by the stop", |m| m.answer.decision == 2),
+    ("closed by a stop finer than a basis point", |m| {
+        m.answer.decision == 2 && m.is_stop_fine()
+    }),
     ("closed by the timeout", |m| m.answer.decision == 3),
     ("exit refused on the day of its opening", |m| {
         m.closes() == Some(m.before.pos) && m.is_held()
@@ -69,7 +72,14 @@ const OF_A_BAR: [BarRule; 26] = [
         m.closes().is_some_and(|side| side != m.before.pos)
     }),
     ("loss equal to the stop", |m| {
-        m.is_held() && m.gain() == Some(-(m.sheet.stop as f64) / 10_000.0)
+        m.is_held() && m.gain() == Some(m.limit())
+    }),
+    ("loss equal to a stop finer than a basis point", |m| {
+        m.is_held() && m.gain() == Some(m.limit()) && m.is_stop_fine()
+    }),
+    ("loss that a stop rounded once would judge otherwise", |m| {
+        let otherwise = |gain: f64| (gain < m.limit()) != (gain < m.limit_rounded_once());
+        (m.answer.decision == 2 || m.is_held() && m.sheet.t0) && m.gain().is_some_and(otherwise)
     }),
     ("id gap equal to the timeout", |m| {
         m.is_held() && m.id_gap() == Some(m.sheet.timeout)
@@ -85,7 +95,7 @@ const OF_A_BAR: [BarRule; 26] = [
     }),
 ];
 
-const OF_A_PAIR: [PairRule; 14] = [
+const OF_A_PAIR: [PairRule; 15] = [
     ("pair long", |pair| pair.side == 1),
     ("pair short", |pair| pair.side == -1),
     ("pair whose ids fall", |pair| pair.ids < 0),
@@ -96,6 +106,10 @@ const OF_A_PAIR: [PairRule; 14] = [
     ("pair yield -0", |pair| pair.bp == Some((-0.0f64).to_bits())),
     ("sequence with a stop", |pair| {
         pair.sequence.contains("BP止损")
+    }),
+    ("sequence with a stop finer than a basis point", |pair| {
+        let closing = pair.sequence.rsplit("平").next();
+        closing.is_some_and(|text| text.ends_with("BP止损") && text.contains('.'))
     }),
     ("sequence with a timeout", |pair| {
         pair.sequence.contains("K超时")
@@ -254,6 +268,21 @@ impl Moment<'_> {
             Pos::Short => Some(1.0 - ratio),
             Pos::Flat => None,
         }
+    }
+
+    /// Whether the stop is no whole number of basis points.
+    fn is_stop_fine(&self) -> bool {
+        self.sheet.stop % 100 != 0
+    }
+
+    /// The gain that a side held must be below to be stopped.
+    fn limit(&self) -> f64 {
+        -self.sheet.stop_points() / 10_000.0
+    }
+
+    /// The same as one division would give it, which is another double for some stops.
+    fn limit_rounded_once(&self) -> f64 {
+        -(self.sheet.stop as f64) / 1_000_000.0
     }
 
     /// The ids since the reference, where it is an earlier bar.

@@ -103,7 +103,7 @@ pub fn position(sheet: &Sheet) -> Result<Position, String> {
     position.exits = events(true)?;
     position.interval = sheet.interval;
     position.timeout = sheet.timeout as i32;
-    position.stop_loss = sheet.stop as f64;
+    position.stop_loss = sheet.stop_points();
     position.t0 = sheet.t0;
     position.name = sheet.name.clone();
     position.symbol = sheet.symbol.clone();

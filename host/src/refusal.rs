@@ -44,7 +44,7 @@ refusals! {
     6 WrongScore: "a score is unreadable or outside 0..100",
     7 PastLimit: "a text, a name or a count passes its limit",
     8 WrongLength: "a buffer does not have the length that the call needs",
-    9 NotTable: "the bytes are not a table",
+    9 NotTable: "the bytes are not a table of this layout",
     10 NotBook: "the bytes are not a book of the table",
     11 BarOutOfRange: "a field of the bar is outside its range",
     12 KeyTwice: "a key stands twice among the bar's signals",

@@ -26,7 +26,8 @@ impl Table {
         Ok(Table { bytes })
     }
 
-    /// Takes a table that was stored: bytes that are no table are refused.
+    /// Takes a table that was stored: bytes that are no table are refused, and so is one of an earlier layout, whose
+    /// sheet must be compiled again.
     ///
     /// ```
     /// use position_book::{Refusal, Table};

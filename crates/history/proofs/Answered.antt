@@ -13,6 +13,7 @@ use Rattle.text.specs.Answer.{Answer, Refused, Got, _>>=_, must, given}
 use Rattle.text.proofs.Refusals.{Gives, refuses, gives, Any, must-gives, given-gives, then-with, then-gives, loud, lines-give}
 use Rattle.text.specs.Number.{unsigned}
 use Rattle.utf8.specs.Alone.{text}
+use Rattle.stop.specs.Stop.{hundredthsOf}
 use Rattle.operate.specs.Operate.{operateOf}
 use Rattle.signal.specs.Signal.{signalOf}
 use Rattle.sheet.specs.Sheet.{Kind, Sheet}
@@ -63,7 +64,7 @@ unfolding operateOf
 operate-gives s = search loud
 
 position-gives : (f : List (List ℕ)) → Gives Any (positionLine f)
-unfolding positionLine unsigned
+unfolding positionLine unsigned hundredthsOf
 position-gives f = search loud depth 12
 
 event-gives : (exit : Bool) (s : Sheet) (f : List (List ℕ)) → Gives Any (eventLine exit s f)

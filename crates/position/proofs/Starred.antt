@@ -80,6 +80,14 @@ stop-edge-short : RowRight (Runs Further.stop-edge-short)
 unfolding opened lines stateAfter
 stop-edge-short = (refl, refl)
 
+fine-stop : RowRight (Runs Further.fine-stop)
+unfolding opened lines stateAfter
+fine-stop = (refl, refl)
+
+two-roundings : RowRight (Runs Further.two-roundings)
+unfolding opened lines stateAfter
+two-roundings = (refl, refl)
+
 timeout-short : RowRight (Runs Further.timeout-short)
 unfolding opened lines stateAfter
 timeout-short = (refl, refl)
@@ -162,4 +170,4 @@ capital-digits = (refl, refl)
 
 pub misread : Right further
 unfolding further
-misread = (stop-edge, (stop-edge-short, (timeout-short, (local-day-differs, (local-day-same, (before-1970, (reversal, (reversal-too-soon, (reversal-same-day, (refused-bars, (keys-without, (empty-texts, (clauses, (tagged-names, (tagged-other, (opened-at-zero, (endless-yields, (no-events, (sheet-first, (signal-first, (malformed-bar, (capital-digits, tt))))))))))))))))))))))
+misread = (stop-edge, (stop-edge-short, (fine-stop, (two-roundings, (timeout-short, (local-day-differs, (local-day-same, (before-1970, (reversal, (reversal-too-soon, (reversal-same-day, (refused-bars, (keys-without, (empty-texts, (clauses, (tagged-names, (tagged-other, (opened-at-zero, (endless-yields, (no-events, (sheet-first, (signal-first, (malformed-bar, (capital-digits, tt))))))))))))))))))))))))

@@ -33,6 +33,36 @@ stop-edge-short =
       operates = SO ∷ SE ∷ [];
     }
 
+-- "12.50 shown as 12.5": a loss of 12 basis points is no stop, one of 13 is
+abbrev pub fine-stop : Case
+fine-stop =
+    record {
+      input =
+          soy "P|soy|M1|0|9|12.50|1"
+          ("B|1|0|0|4059000000000000" ∷ up ∷ "B|2|1000000|0|4058f851eb851eb8" ∷ "B|3|2000000|0|4058f7ae147ae148" ∷ []);
+      output =
+          "F|0|1|1" ∷ "F|0|1|0" ∷ "F|0|0|1"
+          ∷ "R|M1|soy|L|0|2000000|4059000000000000|4058f7ae147ae148|2|go@is_match -> 平多@12.5BP止损|3ef845c8a0ce5129|c02a000000000000"
+          ∷ "H|0|1|4059000000000000|c0280000000001fa" ∷ "H|1000000|1|4058f851eb851eb8|bff004ebcd8ef7d8" ∷ "H|2000000|0|4058f7ae147ae148|-"
+          ∷ [];
+      operates = LO ∷ LE ∷ [];
+    }
+
+-- a gain of exactly -stop/10000, rounded twice; -500002/1000000, rounded once, is above it
+abbrev pub two-roundings : Case
+two-roundings =
+    record {
+      input =
+          soy "P|soy|M1|0|9|5000.02|1"
+          ("B|1|0|0|3ff0000000000000" ∷ up ∷ "B|2|1000000|0|3fdffff79c842fa4" ∷ "B|3|2000000|0|3fdffff79c842fa2" ∷ []);
+      output =
+          "F|0|1|1" ∷ "F|0|1|0" ∷ "F|0|0|1"
+          ∷ "R|M1|soy|L|0|2000000|3ff0000000000000|3fdffff79c842fa2|2|go@is_match -> 平多@5000.02BP止损|3ef845c8a0ce5129|c0b388051eb851ec"
+          ∷ "H|0|1|3ff0000000000000|c0b388051eb851ec" ∷ "H|1000000|1|3fdffff79c842fa4|bd83880000000000" ∷ "H|2000000|0|3fdffff79c842fa2|-"
+          ∷ [];
+      operates = LO ∷ LE ∷ [];
+    }
+
 -- a timeout on the short side, by the id alone
 abbrev pub timeout-short : Case
 timeout-short =
@@ -294,6 +324,8 @@ unfoldable pub further : List CaseRow
 further =
     Runs stop-edge
     ∷ Runs stop-edge-short
+    ∷ Runs fine-stop
+    ∷ Runs two-roundings
     ∷ Runs timeout-short
     ∷ Runs local-day-differs
     ∷ Runs local-day-same

@@ -10,6 +10,7 @@ use lib.ListN.{getD, getElem?}
 use Rattle.text.specs.Literal.{bytes}
 use Rattle.text.specs.Text.{has, begins}
 use Rattle.text.specs.Number.{decimalOf}
+use Rattle.stop.specs.Stop.{stopText}
 use Rattle.double.specs.Double.{daysOf, pairYield}
 use Rattle.double.specs.declared.Side.{Side}
 use Rattle.double.specs.declared.Side.the-variants as Side
@@ -40,10 +41,11 @@ eventName s i = nameIn (getElem? (s .events) i)
 abbrev pub closeName : ℕ → List ℕ
 closeName operate = cond (eqb operate SE) (bytes "平空") (bytes "平多")
 
--- "Stop text is 平多@500BP止损, timeout text 平多@5K超时 (平空 for SE), numbers in plain decimal."
+-- "Stop text is 平多@500BP止损, timeout text 平多@5K超时 (平空 for SE), numbers in plain decimal."; "The stop text prints the stop without
+-- needless zeros or a bare point"
 abbrev pub descriptionText : Sheet → ℕ → Description → List ℕ
 descriptionText s operate (ByEvent i) = eventName s i
-descriptionText s operate Stop = closeName operate ++ bytes "@" ++ decimalOf (s .stop) ++ bytes "BP止损"
+descriptionText s operate Stop = closeName operate ++ bytes "@" ++ stopText (s .stop) ++ bytes "BP止损"
 descriptionText s operate Timeout = closeName operate ++ bytes "@" ++ decimalOf (s .timeout) ++ bytes "K超时"
 
 -- "it starts with that operate's spelling and `#`": either spelling

@@ -8,10 +8,11 @@ use lib.IntN.{ℤ, pos, negsuc}
 use lib.Signed.{ltZ}
 use lib.Ieee.{Float}
 use lib.ListN.{getElem?}
-use Rattle.double.specs.Double.{whole, holdYield, stopHit}
+use Rattle.double.specs.Double.{holdYield, stopHit}
 use Rattle.double.specs.declared.Side.{Side}
 use Rattle.double.specs.declared.Side.the-variants as Side
 use Rattle.double.specs.declared.Yield.the-variants.{Absent}
+use Rattle.stop.specs.Stop.{stopDouble}
 use Rattle.operate.specs.Operate.{HO, LO, LE, SO, SE}
 use Rattle.bar.specs.Time.{secondsBetween}
 use Rattle.bar.specs.Bar.{dayAt}
@@ -105,7 +106,7 @@ mayClose s b last = s .t0 || differentDay b last
 
 -- the stop as a double of basis points
 abbrev pub stopOf : Sheet → Float
-stopOf s = whole (s .stop)
+stopOf s = stopDouble (s .stop)
 
 -- "price/reference - 1 < -stop/10000 (stop)"; "1 - price/reference" for the short side
 unfoldable pub stopped : Sheet → Side → Bar → LastEvent → Bool

@@ -9,6 +9,8 @@ use Rattle.double.specs.declared.Side.{Side}
 use Rattle.double.specs.declared.Side.the-variants as Side
 use Rattle.double.proofs.Branches.{both}
 use Rattle.double.proofs.OwnPrice.{own-price}
+use Rattle.stop.specs.Stop.{stopDouble}
+use Rattle.stop.proofs.Double.{stop-signed}
 use Rattle.operate.specs.Operate.{LO, SO}
 use Rattle.bar.specs.declared.Bar.{Bar}
 use Rattle.sheet.specs.Sheet.{Sheet}
@@ -66,7 +68,7 @@ module _ (s : Sheet) (b : Bar) (c : Choice) where
 
   closeOn-own : (side : Side) (g : Going) → eqb (c .operate) (closeOf side) ≡ false → closeOn s b c side (own b c) g ≡ g
   unfolding stopped timedOut own
-  closeOn-own side g e = rw (e, own-price side (s .stop) (b .price), le-ltb (s .timeout) (b .id - b .id) (omega arith)) refl
+  closeOn-own side g e = rw (e, own-price side (stopDouble (s .stop)) (stop-signed (s .stop)) (b .price), le-ltb (s .timeout) (b .id - b .id) (omega arith)) refl
 
   closing-own : (side : Side) (g : Going) → eqb (c .operate) (closeOf side) ≡ false → g .head .reference ≡ own b c → closing s b c side g ≡ g
   unfolding closing

@@ -19,6 +19,7 @@ use position::Open;
 use position::Pos;
 use position::Record;
 use position::Reference;
+use stop::stop_double;
 use table::Settings;
 ghost use mathlib.Core.Path.{_≡_};
 ghost use mathlib.Core.Bool.{true, not, _&&_};
@@ -167,7 +168,7 @@ fn can_close(k: Settings, bar: Bar, side: Side, h: Head) -> bool
 fn is_stopped(k: Settings, side: Side, bar: Bar, e: LastEvent) -> bool
     ensures { λ r. ⌜ r ≡ stopped (ofSettings k) side bar e ⌝ }
 {
-    stop_hit(side, k.stop as f64, e.bar.price, bar.price)
+    stop_hit(side, stop_double(k.stop as u64), e.bar.price, bar.price)
 }
 
 // Whether the id is more than the timeout past the reference's: equality does not pass, nor does an id below the reference's.

@@ -1,6 +1,6 @@
 -- A block of pair rows has at least one, so that who reads on behind it comes to the end: the texts of a table's pair fit a row buffer. Assumes
 -- nothing.
-use Prim.Native.Nat.{ℕ, zero, suc, _+_, _^_, _<_, _≤_}
+use Prim.Native.Nat.{ℕ, zero, suc, _+_, _*_, _^_, _<_, _≤_}
 use native.Mathlib.Omega.{arith}
 use mathlib.Core.Bool.{Bool, true, false, cond}
 use mathlib.Core.List.{List, [], _∷_, _++_, map}
@@ -44,7 +44,7 @@ record Short (s : Sheet) : Type 0 where
   name : length (s .name) ≤ nameLimit
   symbol : length (s .symbol) ≤ nameLimit
   stop : s .stop < 2 ^ 64
-  timeout : s .timeout < 2 ^ 64
+  timeout : 100 * s .timeout < 2 ^ 64
   event : (i : ℕ) → length (eventName s i) ≤ nameLimit
 
 event-short : (names : List ℕ) (cs : List Clause) (es : List EventRow) → every (eventOk names) es ≡ true → (i : ℕ)
@@ -60,7 +60,7 @@ short : (t : List ℕ) → isTable t ≡ true → Short (sheetOf (partsIn t))
 unfolding sheetOf partsIn headOk settingsOk partsOk eventsOk
 short t ok =
     let f = table-facts t ok in
-    let settings = fact _ (f .0) 1 in
+    let settings = fact _ (f .0) 2 in
     let n = name-is t ok refl refl in
     let m = symbol-is t ok refl refl in
     record {
@@ -90,7 +90,7 @@ part-short {s} h r = go (r .description) refl
     go Stop e =
         omega (arith, ap length (stop-part s r e refl), closing-length (r .operate) (s .stop) (bytes "BP止损") (h .stop) (omega arith))
     go Timeout e =
-        omega (arith, ap length (timeout-part s r e refl), closing-length (r .operate) (s .timeout) (bytes "K超时") (h .timeout) (omega arith))
+        omega (arith, ap length (timeout-part s r e refl), closing-length (r .operate) (100 * s .timeout) (bytes "K超时") (h .timeout) (omega arith))
 
 pair-short : {s : Sheet} → Short s → (a z : Record) → length (pairText (pairOf s a z)) ≤ rowBuffer
 unfolding pairOf bytes encoded

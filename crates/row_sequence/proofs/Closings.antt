@@ -1,5 +1,5 @@
 -- The text of a stop or timeout: the name of the closing, `@`, a number and its unit. Assumes nothing.
-use Prim.Native.Nat.{ℕ, _^_, _<_, _≤_}
+use Prim.Native.Nat.{ℕ, _/_, _^_, _<_, _≤_}
 use native.Mathlib.Omega.{arith}
 use mathlib.Core.Path.{_≡_, refl}
 use mathlib.Core.Logic.{_≢_}
@@ -10,10 +10,11 @@ use lib.Dec.{eqb}
 use lib.ListN.{length, getD, length-append}
 use lib.Seq.{slice, take-length}
 use Rattle.text.specs.Literal.{bytes, encoded}
-use Rattle.text.specs.Number.{decimalOf}
 use Rattle.text.specs.Read.{Put}
 use Rattle.text.proofs.Put.{put-put, put-whole}
 use Rattle.text_write.proofs.Written.{length-decimal}
+use Rattle.stop.specs.Stop.{stopText}
+use Rattle.stop.proofs.Kept.{text-length}
 use Rattle.operate.specs.Operate.{chinese, LE, SE}
 use Rattle.operate.specs.Read.{Name}
 use Rattle.position.specs.Rows.{closeName}
@@ -44,15 +45,15 @@ close-length operate = go (eqb operate SE)
 
 -- ---- the text
 
-pub closing-length : (operate v : ℕ) (unit : List ℕ) → v < 2 ^ 64 → length unit ≤ 8 → length (closeName operate ++ bytes "@" ++ decimalOf v ++ unit) ≤ 35
+pub closing-length : (operate h : ℕ) (unit : List ℕ) → h < 2 ^ 64 → length unit ≤ 8 → length (closeName operate ++ bytes "@" ++ stopText h ++ unit) ≤ 38
 unfolding bytes encoded
-closing-length operate v unit h k =
-    rw (length-append, length-append, length-append) (omega (arith, close-length operate, length-decimal v h))
+closing-length operate h unit k n =
+    rw (length-append, length-append, length-append) (omega (arith, close-length operate, text-length h, length-decimal (h / 100) (omega arith)))
 
-pub closing-put : (operate v : ℕ) (unit : List ℕ) {a b c d e : List ℕ} {at p q r end : ℕ} → v < 2 ^ 64 → length unit ≤ 8 → Put a b at (closeName operate) p → Put b c p (64 ∷ []) q → Put c d q (decimalOf v) r
-    → Put d e r (slice 0 (length unit) unit) end → PartPut a e at (closeName operate ++ bytes "@" ++ decimalOf v ++ unit) end
+pub closing-put : (operate h : ℕ) (unit : List ℕ) {a b c d e : List ℕ} {at p q r end : ℕ} → h < 2 ^ 64 → length unit ≤ 8 → Put a b at (closeName operate) p → Put b c p (64 ∷ []) q → Put c d q (stopText h) r
+    → Put d e r (slice 0 (length unit) unit) end → PartPut a e at (closeName operate ++ bytes "@" ++ stopText h ++ unit) end
 unfolding bytes encoded
-closing-put operate v unit h k w x y z = record {
+closing-put operate h unit k n w x y z = record {
   put = put-put (put-put (put-put w x) y) (put-whole unit z);
-  short = omega (arith, closing-length operate v unit h k);
+  short = omega (arith, closing-length operate h unit k n);
 }

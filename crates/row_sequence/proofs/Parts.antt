@@ -1,5 +1,5 @@
 -- A record's part of the sequence, and the two parts joined. Assumes nothing.
-use Prim.Native.Nat.{ℕ, _+_, _≤_}
+use Prim.Native.Nat.{ℕ, _+_, _*_, _≤_}
 use native.Mathlib.Omega.{arith}
 use mathlib.Core.Path.{_≡_, refl}
 use mathlib.Core.Bool.{true, false, or-true}
@@ -12,6 +12,8 @@ use Rattle.text.specs.Text.{has}
 use Rattle.text.specs.Number.{decimalOf}
 use Rattle.text.specs.Read.{Put}
 use Rattle.text.proofs.Put.{put-put, put-whole}
+use Rattle.stop.specs.Stop.{stopText}
+use Rattle.stop.proofs.Writing.{text-whole}
 use Rattle.sheet.specs.Sheet.{Sheet, nameLimit}
 use Rattle.position.specs.Rows.{eventName, closeName, eventTag, sequencePart, sequenceOf}
 use Rattle.position.specs.declared.Description.the-variants.{Event, Stop, Timeout}
@@ -60,13 +62,15 @@ module _ (s : Sheet) (r : Record) where
   unfolding sequenceOf
   event-part e n = rw (e, n)
 
-  pub stop-part : {v : ℕ} → r .description ≡ Stop → v ≡ s .stop → closeName (r .operate) ++ bytes "@" ++ decimalOf v ++ bytes "BP止损" ≡ sequenceOf s r
+  pub stop-part : {v : ℕ} → r .description ≡ Stop → v ≡ s .stop → closeName (r .operate) ++ bytes "@" ++ stopText v ++ bytes "BP止损" ≡ sequenceOf s r
   unfolding sequenceOf
-  stop-part e n = rw (e, n) (kept (closeName (r .operate)) (decimalOf (s .stop)) (bytes "BP止损"))
+  stop-part e n = rw (e, n) (kept (closeName (r .operate)) (stopText (s .stop)) (bytes "BP止损"))
 
-  pub timeout-part : {v : ℕ} → r .description ≡ Timeout → v ≡ s .timeout → closeName (r .operate) ++ bytes "@" ++ decimalOf v ++ bytes "K超时" ≡ sequenceOf s r
+  -- a timeout is whole
+  pub timeout-part : {v : ℕ} → r .description ≡ Timeout → v ≡ s .timeout
+      → closeName (r .operate) ++ bytes "@" ++ stopText (100 * v) ++ bytes "K超时" ≡ sequenceOf s r
   unfolding sequenceOf
-  timeout-part e n = rw (e, n) (kept (closeName (r .operate)) (decimalOf (s .timeout)) (bytes "K超时"))
+  timeout-part e n = rw (e, n, text-whole (s .timeout)) (kept (closeName (r .operate)) (decimalOf (s .timeout)) (bytes "K超时"))
 
 -- ---- `put_sequence`
 

@@ -3,12 +3,12 @@ use operate::to_chinese;
 use position::Description;
 use position::Record;
 use row_names::event_text;
+use stop::put_stop;
 use table::read_settings;
 use text::contains;
 use text::part_eq;
 use text::put_byte;
 use text::put_part;
-use text_write::put_decimal;
 ghost use mathlib.Core.Path.{_≡_};
 ghost use mathlib.Core.Bool.{true};
 ghost use mathlib.Core.List.{[], _++_};
@@ -16,8 +16,8 @@ ghost use Prim.Native.Nat.{_+_, _<_, _≤_};
 ghost use lib.ListN.{length, getD};
 ghost use Rattle.text.specs.Literal.{bytes};
 ghost use Rattle.text.specs.Text.{begins};
-ghost use Rattle.text.specs.Number.{decimalOf};
 ghost use Rattle.text.specs.Read.{Put};
+ghost use Rattle.stop.specs.Stop.{stopText};
 ghost use Rattle.operate.specs.Operate.{latin as Operate·latin};
 ghost use Rattle.sheet.specs.Sheet.{nameLimit};
 ghost use Rattle.position.specs.Rows.{closeName, tagged, eventTag, sequencePart, sequenceOf};
@@ -116,15 +116,15 @@ fn put_close_name(dst: &mut [u8], at: usize, operate: u8) -> usize
     put_part(dst, at, &long, 0, 6)
 }
 
-// Writes the text of a stop or timeout of n units to dst at `at`, and answers the place behind it.
-fn put_closing(dst: &mut [u8], at: usize, operate: u8, n: u32, unit: &[u8]) -> usize
+// Writes the text of a closing by a stop or a timeout of h hundredths to dst at `at`, and answers the place behind it.
+fn put_closing(dst: &mut [u8], at: usize, operate: u8, h: u64, unit: &[u8]) -> usize
     requires { ⌜ length (now unit) ≤ 8 ⌝ }
     requires { ⌜ at + partLimit ≤ length (now dst) ⌝ }
-    ensures { λ r. ⌜ PartPut (now (dst .entry)) (now (dst .exit)) at (closeName operate ++ bytes "@" ++ decimalOf n ++ now (unit .entry)) r ⌝ }
+    ensures { λ r. ⌜ PartPut (now (dst .entry)) (now (dst .exit)) at (closeName operate ++ bytes "@" ++ stopText h ++ now (unit .entry)) r ⌝ }
 {
     let p = put_close_name(dst, at, operate);
     let q = put_byte(dst, p, AT);
-    let end = put_decimal(dst, q, n as u64);
+    let end = put_stop(dst, q, h);
     let k = unit.len();
     put_part(dst, end, unit, 0, k)
 }
@@ -145,11 +145,23 @@ fn put_description(dst: &mut [u8], at: usize, t: &[u8], r: Record) -> usize
         }
         Description::Stop => {
             let s = read_settings(t);
-            put_closing(dst, at, operate, s.stop, b"BP\xe6\xad\xa2\xe6\x8d\x9f")
+            put_closing(
+                dst,
+                at,
+                operate,
+                s.stop as u64,
+                b"BP\xe6\xad\xa2\xe6\x8d\x9f",
+            )
         }
         Description::Timeout => {
             let s = read_settings(t);
-            put_closing(dst, at, operate, s.timeout, b"K\xe8\xb6\x85\xe6\x97\xb6")
+            put_closing(
+                dst,
+                at,
+                operate,
+                100 * (s.timeout as u64),
+                b"K\xe8\xb6\x85\xe6\x97\xb6",
+            )
         }
     }
 }

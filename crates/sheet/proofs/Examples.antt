@@ -53,13 +53,13 @@ in-order = refl
 kept : List ℕ
 kept = bytes "P|n|s|7|6|5|1\nO|LO|a\nY|a_b_c_1_2_3_4\n"
 
-numbers : Got (sheetAt kept (0 ∷ 3 ∷ 19 ∷ 1 ∷ 0 ∷ 1 ∷ []) (1 ∷ 23 ∷ 1 ∷ 3 ∷ 5 ∷ 7 ∷ 9 ∷ 11 ∷ 4 ∷ []) (record { name = 3; symbol = 5; interval = 7; timeout = 6; stop = 5; t0 = 1; events = 1; clauses = 1 })) ≡ readSheet kept
+numbers : Got (sheetAt kept (0 ∷ 3 ∷ 19 ∷ 1 ∷ 0 ∷ 1 ∷ []) (1 ∷ 23 ∷ 1 ∷ 3 ∷ 5 ∷ 7 ∷ 9 ∷ 11 ∷ 4 ∷ []) (record { name = 3; symbol = 5; interval = 7; timeout = 6; stop = 500; t0 = 1; events = 1; clauses = 1 })) ≡ readSheet kept
 unfolding opened kept
 numbers = refl
 
 -- every limit, with zeros in front; empty names
-at-limits : readSheet (bytes "P|||4102444800|2147483647|0001000000|01\n")
-    ≡ Got (record { name = []; symbol = []; interval = 4_102_444_800; timeout = 2_147_483_647; stop = 1_000_000; t0 = true; events = [] })
+at-limits : readSheet (bytes "P|||4102444800|2147483647|0001000000.00|01\n")
+    ≡ Got (record { name = []; symbol = []; interval = 4_102_444_800; timeout = 2_147_483_647; stop = 100_000_000; t0 = true; events = [] })
 unfolding opened
 at-limits = refl
 
@@ -73,7 +73,7 @@ first-2 = (refl, refl, refl, refl, refl)
 
 -- past each limit; no digit; a sign; eleven digits
 first-3 : (readSheet (bytes "P|n|s|4102444801|0|0|0\n") ≡ Refused 3) × (readSheet (bytes "P|n|s|0|2147483648|0|0\n") ≡ Refused 3)
-    × (readSheet (bytes "P|n|s|0|0|1000001|0\n") ≡ Refused 3) × (readSheet (bytes "P|n|s|0|0|0|2\n") ≡ Refused 3)
+    × (readSheet (bytes "P|n|s|0|0|1000000.01|0\n") ≡ Refused 3) × (readSheet (bytes "P|n|s|0|0|0|2\n") ≡ Refused 3)
     × (readSheet (bytes "P|n|s||0|0|0\n") ≡ Refused 3) × (readSheet (bytes "P|n|s|+1|0|0|0\n") ≡ Refused 3)
     × (readSheet (bytes "P|n|s|00000000000|0|0|0\n") ≡ Refused 3)
 unfolding opened

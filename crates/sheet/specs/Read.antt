@@ -11,6 +11,7 @@ use Rattle.text.specs.Text.{same, split, eachLine, LF}
 use Rattle.text.specs.Number.{unsigned}
 use Rattle.text.specs.Conditions.{anyOf}
 use Rattle.utf8.specs.Alone.{text}
+use Rattle.stop.specs.Stop.{hundredthsOf}
 use Rattle.operate.specs.Operate.{operateOf}
 use Rattle.signal.specs.Signal.{signalOf}
 use Rattle.sheet.specs.Sheet.{Kind, All, Any, Not, Clause, Event, Sheet, clauseCount, eventLimit, clauseLimit, nameLimit, intervalLimit, timeoutLimit, stopLimit, t0Limit}
@@ -19,7 +20,7 @@ use Rattle.sheet.specs.Sheet.{Kind, All, Any, Not, Clause, Event, Sheet,
 abbrev pub name : List ℕ → Answer (List ℕ)
 name s = must 7 (leb (length s) nameLimit) >>= λ _. Got s
 
--- "first `P|name|symbol|interval|timeout|stop|t0`"
+-- "first `P|name|symbol|interval|timeout|stop|t0`"; "The stop field may now have one or two decimals after a point"
 unfoldable pub positionLine : List (List ℕ) → Answer Sheet
 positionLine f = do
   _ ← must 2 (same (getD f 0 []) (bytes "P") && eqb (length f) 7)
@@ -27,7 +28,7 @@ positionLine f = do
   s ← name (getD f 2 [])
   interval ← unsigned intervalLimit (getD f 3 [])
   timeout ← unsigned timeoutLimit (getD f 4 [])
-  stop ← unsigned stopLimit (getD f 5 [])
+  stop ← hundredthsOf stopLimit (getD f 5 [])
   t0 ← unsigned t0Limit (getD f 6 [])
   Got (record { name = n; symbol = s; interval = interval; timeout = timeout; stop = stop; t0 = eqb t0 1; events = [] })
 

@@ -27,7 +27,7 @@ pub record Event : Type 0 where
   pub name : List ℕ
   pub clauses : List Clause
 
--- "`P|name|symbol|interval|timeout|stop|t0`": interval in seconds, timeout in bars, stop in basis points
+-- "`P|name|symbol|interval|timeout|stop|t0`": interval in seconds, timeout in bars, stop in hundredths of a basis point
 pub record Sheet : Type 0 where
   pub name : List ℕ
   pub symbol : List ℕ
@@ -61,8 +61,9 @@ intervalLimit = 4_102_444_800
 abbrev pub timeoutLimit : ℕ
 timeoutLimit = 2_147_483_647
 
+-- in hundredths: "The upper limit is still 1,000,000"
 abbrev pub stopLimit : ℕ
-stopLimit = 1_000_000
+stopLimit = 100_000_000
 
 abbrev pub t0Limit : ℕ
 t0Limit = 1

@@ -10,12 +10,12 @@ pub const CLAUSE_LIMIT: usize = 256;
 // The most bytes of a name or a symbol.
 pub const NAME_LIMIT: usize = 256;
 
-// The highest interval in seconds, timeout in bars, stop in basis points, and t0.
+// The highest interval in seconds, timeout in bars, stop in hundredths of a basis point, and t0.
 pub const INTERVAL_LIMIT: u64 = 4_102_444_800;
 
 pub const TIMEOUT_LIMIT: u64 = 2_147_483_647;
 
-pub const STOP_LIMIT: u64 = 1_000_000;
+pub const STOP_LIMIT: u64 = 100_000_000;
 
 pub const T0_LIMIT: u64 = 1;
 

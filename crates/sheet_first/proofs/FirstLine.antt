@@ -12,12 +12,14 @@ use lib.ListN.{length, getD}
 use lib.Seq.{slice, length-slice}
 use Rattle.list.specs.Numbered.{numbered, rows}
 use Rattle.text.specs.Literal.{bytes, encoded}
-use Rattle.text.specs.Text.{same, split, onto, pipe}
+use Rattle.text.specs.Text.{same, split, onto, pipe, point}
 use Rattle.text.specs.Number.{atMost, digitsTo, unsigned}
 use Rattle.text.specs.Read.{Part}
 use Rattle.text_number.specs.Read.{numberOf}
 use Rattle.text_number.specs.declared.Number.{Number}
 use Rattle.text_number.specs.declared.Number.the-variants.{Is as Number·Is}
+use Rattle.text_number.proofs.Digits.{at-most}
+use Rattle.stop.specs.Stop.{hundredthsIn, stopIn, hundredthsOf}
 use Rattle.sheet.specs.Sheet.{nameLimit, intervalLimit, timeoutLimit, stopLimit, t0Limit}
 use Rattle.sheet.specs.Read.{positionLine}
 use Rattle.sheet.specs.Places.{fieldsOf, sheetAt, clausesBefore}
@@ -34,14 +36,6 @@ number-over {r} {v} {o} hi e k h = sym (ap (atMost hi) (sym e ∙ ap numberOf k)
 pub number-in : {r : Number} {v : ℕ} {o : Option ℕ} (hi : ℕ) → numberOf r ≡ o → r ≡ Number·Is v → v ≤ hi → some v ≡ atMost hi o
 number-in {r} {v} {o} hi e k h = sym (ap (atMost hi) (sym e ∙ ap numberOf k) ∙ rw (le-leb v hi h))
 
-at-most : (hi : ℕ) (o : Option ℕ) {v : ℕ} → some v ≡ atMost hi o → v ≤ hi
-at-most hi none e = absurd (let z : _≡_ {A = ℕ} 0 1 = cc in omega arith)
-at-most hi (some w) {v} e = go (leb w hi) refl e
-  where
-    go : (t : Bool) → leb w hi ≡ t → some v ≡ cond t (some w) none → v ≤ hi
-    go true h k = let g : v ≡ w = cc in omega (arith, leb-true w hi h)
-    go false h k = absurd (let z : _≡_ {A = ℕ} 0 1 = cc in omega arith)
-
 -- ---- the four numbers
 
 -- what the field from..to is as a number of at most hi
@@ -53,30 +47,30 @@ names-rest n = record { order = omega (arith, n .within); within = n .line }
 
 module _ {s : List ℕ} {name symbol to : ℕ} (n : Names s name symbol to) {a : ℕ} (f : Cut s (symbol + 1) to a 3) where
   pub bad-interval : none ≡ fieldOf s intervalLimit (symbol + 1) a → SettingsAs s name symbol to BadNumber
-  unfolding settingsLine unsigned
+  unfolding settingsLine unsigned hundredthsOf
   bad-interval e es cs = record { is = rw (f .fields, ← e); ok = tt }
 
   module _ {interval : ℕ} (e0 : some interval ≡ fieldOf s intervalLimit (symbol + 1) a) {b : ℕ} (g : Cut s (a + 1) to b 2) where
     pub bad-timeout : none ≡ fieldOf s timeoutLimit (a + 1) b → SettingsAs s name symbol to BadNumber
-    unfolding settingsLine unsigned
+    unfolding settingsLine unsigned hundredthsOf
     bad-timeout e es cs = record { is = rw (f .fields, g .fields, ← e0, ← e); ok = tt }
 
     module _ {timeout : ℕ} (e1 : some timeout ≡ fieldOf s timeoutLimit (a + 1) b) {c : ℕ} (h : Cut s (b + 1) to c 1) where
-      pub bad-stop : none ≡ fieldOf s stopLimit (b + 1) c → SettingsAs s name symbol to BadNumber
-      unfolding settingsLine unsigned
+      pub bad-stop : none ≡ stopIn stopLimit (slice (b + 1) c s) → SettingsAs s name symbol to BadNumber
+      unfolding settingsLine unsigned hundredthsOf
       bad-stop e es cs = record { is = rw (f .fields, g .fields, h .fields, ← e0, ← e1, ← e); ok = tt }
 
-      module _ {stop : ℕ} (e2 : some stop ≡ fieldOf s stopLimit (b + 1) c) where
+      module _ {stop : ℕ} (e2 : some stop ≡ stopIn stopLimit (slice (b + 1) c s)) where
         last : fieldsOf s (c + 1) to ≡ slice (c + 1) to s ∷ []
         last = last-field s (c + 1) to (h .left)
 
         pub bad-t0 : none ≡ fieldOf s t0Limit (c + 1) to → SettingsAs s name symbol to BadNumber
-        unfolding settingsLine unsigned
+        unfolding settingsLine unsigned hundredthsOf
         bad-t0 e es cs = record { is = rw (f .fields, g .fields, h .fields, last, ← e0, ← e1, ← e2, ← e); ok = tt }
 
         pub settings-are : {t0 : ℕ} → some t0 ≡ fieldOf s t0Limit (c + 1) to
             → SettingsAs s name symbol to (Is (record { name = name; symbol = symbol; interval = interval; timeout = timeout; stop = stop; t0 = t0; events = 0; clauses = 0 }))
-        unfolding settingsLine unsigned sheetAt rows numbered clausesBefore
+        unfolding settingsLine unsigned hundredthsOf stopIn sheetAt rows numbered clausesBefore
         settings-are {t0} e3 es cs = record {
           is = rw (f .fields, g .fields, h .fields, last, ← e0, ← e1, ← e2, ← e3);
           ok = record {
@@ -88,7 +82,7 @@ module _ {s : List ℕ} {name symbol to : ℕ} (n : Names s name symbol to) {a :
             settings = record {
               interval = at-most intervalLimit (digitsTo 10 (slice (symbol + 1) a s)) e0;
               timeout = at-most timeoutLimit (digitsTo 10 (slice (a + 1) b s)) e1;
-              stop = at-most stopLimit (digitsTo 10 (slice (b + 1) c s)) e2;
+              stop = at-most stopLimit (hundredthsIn (split point (slice (b + 1) c s))) e2;
               t0 = at-most t0Limit (digitsTo 10 (slice (c + 1) to s)) e3;
             };
             few = omega arith;

@@ -6,6 +6,7 @@ use lib.ListN.{length, getD}
 use lib.Seq.{slice}
 use Rattle.text.specs.Answer.{Answer, Got, _>>=_}
 use Rattle.text.specs.Number.{unsigned}
+use Rattle.stop.specs.Stop.{hundredthsOf}
 use Rattle.sheet.specs.Sheet.{Sheet, nameLimit, intervalLimit, timeoutLimit, stopLimit, t0Limit}
 use Rattle.sheet.specs.Read.{positionLine}
 use Rattle.sheet.specs.Places.{fieldsOf, SheetIs}
@@ -25,7 +26,7 @@ unfoldable pub settingsLine : List ℕ → List ℕ → List (List ℕ) → Answ
 settingsLine n s f = do
   interval ← unsigned intervalLimit (getD f 0 [])
   timeout ← unsigned timeoutLimit (getD f 1 [])
-  stop ← unsigned stopLimit (getD f 2 [])
+  stop ← hundredthsOf stopLimit (getD f 2 [])
   t0 ← unsigned t0Limit (getD f 3 [])
   Got (record { name = n; symbol = s; interval = interval; timeout = timeout; stop = stop; t0 = eqb t0 1; events = [] })
 

@@ -6,6 +6,7 @@ use sheet::SheetAt;
 use sheet::SheetRead;
 use sheet::T0_LIMIT;
 use sheet::TIMEOUT_LIMIT;
+use stop::read_stop;
 use text::PIPE;
 use text::count_parts;
 use text::find;
@@ -50,7 +51,7 @@ fn settings(s: &[u8], name: usize, symbol: usize, to: usize) -> SheetRead
         return SheetRead::BadNumber;
     };
     let c = find(s, b + 1, to, PIPE);
-    let Number::Is(stop) = unsigned(s, b + 1, c, STOP_LIMIT) else {
+    let Number::Is(stop) = read_stop(s, b + 1, c, STOP_LIMIT) else {
         return SheetRead::BadNumber;
     };
     let Number::Is(t0) = unsigned(s, c + 1, to, T0_LIMIT) else {

@@ -18,12 +18,14 @@ use Rattle.table.proofs.Opened.{opened}
 
 unfoldable pub soy : List ℕ
 soy =
+    -- the layout number
+    (2 ∷ 0 ∷ 0 ∷ 255 ∷ [])
     -- interval, timeout, stop, t0
-    (0 ∷ 0 ∷ 0 ∷ 0 ∷ 5 ∷ 0 ∷ 0 ∷ 0 ∷ 100 ∷ 0 ∷ 0 ∷ 0 ∷ 0 ∷ 0 ∷ 0 ∷ 0 ∷ [])
+    ++ (0 ∷ 0 ∷ 0 ∷ 0 ∷ 5 ∷ 0 ∷ 0 ∷ 0 ∷ 16 ∷ 39 ∷ 0 ∷ 0 ∷ 0 ∷ 0 ∷ 0 ∷ 0 ∷ [])
     -- how many events, clauses, keys, values; the lengths of name and symbol
     ++ (2 ∷ 0 ∷ 0 ∷ 0 ∷ 2 ∷ 0 ∷ 0 ∷ 0 ∷ 1 ∷ 0 ∷ 0 ∷ 0 ∷ 2 ∷ 0 ∷ 0 ∷ 0 ∷ 3 ∷ 0 ∷ 0 ∷ 0 ∷ 2 ∷ 0 ∷ 0 ∷ 0 ∷ [])
     -- where events, clauses, keys, values, texts, event names, key texts and value texts start; the end
-    ++ (76 ∷ 0 ∷ 0 ∷ 0 ∷ 100 ∷ 0 ∷ 0 ∷ 0 ∷ 124 ∷ 0 ∷ 0 ∷ 0 ∷ 132 ∷ 0 ∷ 0 ∷ 0 ∷ 148 ∷ 0 ∷ 0 ∷ 0 ∷ 153 ∷ 0 ∷ 0 ∷ 0 ∷ 158 ∷ 0 ∷ 0 ∷ 0 ∷ 164 ∷ 0 ∷ 0 ∷ 0 ∷ 170 ∷ 0 ∷ 0 ∷ 0 ∷ [])
+    ++ (80 ∷ 0 ∷ 0 ∷ 0 ∷ 104 ∷ 0 ∷ 0 ∷ 0 ∷ 128 ∷ 0 ∷ 0 ∷ 0 ∷ 136 ∷ 0 ∷ 0 ∷ 0 ∷ 152 ∷ 0 ∷ 0 ∷ 0 ∷ 157 ∷ 0 ∷ 0 ∷ 0 ∷ 162 ∷ 0 ∷ 0 ∷ 0 ∷ 168 ∷ 0 ∷ 0 ∷ 0 ∷ 174 ∷ 0 ∷ 0 ∷ 0 ∷ [])
     -- two events: kind, operate, name at, length, first clause, clauses
     ++ (0 ∷ 0 ∷ 3 ∷ 0 ∷ 0 ∷ 0 ∷ 2 ∷ 0 ∷ 0 ∷ 0 ∷ 1 ∷ 0 ∷ [])
     ++ (1 ∷ 0 ∷ 4 ∷ 0 ∷ 2 ∷ 0 ∷ 3 ∷ 0 ∷ 1 ∷ 0 ∷ 1 ∷ 0 ∷ [])
@@ -35,7 +37,7 @@ soy =
     ++ (0 ∷ 0 ∷ 2 ∷ 0 ∷ 1 ∷ 0 ∷ 1 ∷ 0 ∷ [])
     ++ (2 ∷ 0 ∷ 4 ∷ 0 ∷ 0 ∷ 0 ∷ 0 ∷ 0 ∷ [])
     ++ bytes "soyM1gooutd1_u_wupdown"
-    ++ replicate 32598 0
+    ++ replicate 32594 0
 
 unfoldable pub meant : Sheet
 meant =
@@ -44,7 +46,7 @@ meant =
       symbol = bytes "M1";
       interval = 0;
       timeout = 5;
-      stop = 100;
+      stop = 10_000;
       t0 = false;
       events =
           record {
@@ -72,7 +74,7 @@ unfolding opened soy meant
 table-means = refl
 
 -- what stands behind the used bytes is not looked at
-tail-free : readTable (patch soy 170 (1 ∷ [])) ≡ Got meant
+tail-free : readTable (patch soy 174 (1 ∷ [])) ≡ Got meant
 unfolding opened soy meant
 tail-free = refl
 
@@ -81,38 +83,38 @@ tail-free = refl
 abbrev changed : ℕ → List ℕ → Answer Sheet
 changed at new = readTable (patch soy at new)
 
--- settings past their limits; counts and places that do not fit; a byte too few
-header : (changed 0 (put32 4102444801) ≡ Refused 9) × (changed 4 (put32 2147483648) ≡ Refused 9) × (changed 8 (put32 1000001) ≡ Refused 9)
-    × (changed 12 (put32 2) ≡ Refused 9) × (changed 16 (put32 1) ≡ Refused 9) × (changed 60 (put32 154) ≡ Refused 9) × (readTable (drop 1 soy) ≡ Refused 9)
+-- another layout number; settings past their limits; counts and places that do not fit; a byte too few
+header : (changed 0 (put32 0xff00_0003) ≡ Refused 9) × (changed 4 (put32 4102444801) ≡ Refused 9) × (changed 8 (put32 2147483648) ≡ Refused 9) × (changed 12 (put32 100_000_001) ≡ Refused 9)
+    × (changed 16 (put32 2) ≡ Refused 9) × (changed 20 (put32 1) ≡ Refused 9) × (changed 64 (put32 158) ≡ Refused 9) × (readTable (drop 1 soy) ≡ Refused 9)
 unfolding opened soy
-header = (refl, refl, refl, refl, refl, refl, refl)
+header = (refl, refl, refl, refl, refl, refl, refl, refl)
 
 -- an event's kind, operate, name, clauses
-events : (changed 76 (put16 2) ≡ Refused 9) × (changed 78 (put16 7) ≡ Refused 9) × (changed 82 (put16 3) ≡ Refused 9) × (changed 98 (put16 2) ≡ Refused 9)
+events : (changed 80 (put16 2) ≡ Refused 9) × (changed 82 (put16 7) ≡ Refused 9) × (changed 86 (put16 3) ≡ Refused 9) × (changed 102 (put16 2) ≡ Refused 9)
 unfolding opened soy
 events = (refl, refl, refl, refl)
 
 -- a clause's kind, key, value codes 0 and 3, score
-clauses : (changed 100 (put16 3) ≡ Refused 9) × (changed 102 (put16 1) ≡ Refused 9) × (changed 104 (put16 0) ≡ Refused 9)
-    × (changed 104 (put16 3) ≡ Refused 9) × (changed 110 (put16 101) ≡ Refused 9)
+clauses : (changed 104 (put16 3) ≡ Refused 9) × (changed 106 (put16 1) ≡ Refused 9) × (changed 108 (put16 0) ≡ Refused 9)
+    × (changed 108 (put16 3) ≡ Refused 9) × (changed 114 (put16 101) ≡ Refused 9)
 unfolding opened soy
 clauses = (refl, refl, refl, refl, refl)
 
 -- values not in order of first use; a value that is not used
-uses : (readTable (patch (patch soy 104 (put16 2)) 116 (put16 1)) ≡ Refused 9) × (changed 116 (put16 1) ≡ Refused 9)
+uses : (readTable (patch (patch soy 108 (put16 2)) 120 (put16 1)) ≡ Refused 9) × (changed 120 (put16 1) ≡ Refused 9)
 unfolding opened soy
 uses = (refl, refl)
 
 -- `|`, LF and a byte that is no UTF-8 in a text; three underscores in a key, the wildcard as a key; an underscore in a value
-texts : (changed 148 (124 ∷ []) ≡ Refused 9) × (changed 151 (10 ∷ []) ≡ Refused 9) × (changed 153 (255 ∷ []) ≡ Refused 9)
-    × (changed 158 (bytes "a_b_c_") ≡ Refused 9) × (changed 158 (bytes "任意") ≡ Refused 9) × (changed 164 (bytes "_") ≡ Refused 9)
+texts : (changed 152 (124 ∷ []) ≡ Refused 9) × (changed 155 (10 ∷ []) ≡ Refused 9) × (changed 157 (255 ∷ []) ≡ Refused 9)
+    × (changed 162 (bytes "a_b_c_") ≡ Refused 9) × (changed 162 (bytes "任意") ≡ Refused 9) × (changed 168 (bytes "_") ≡ Refused 9)
 unfolding opened soy
 texts = (refl, refl, refl, refl, refl, refl)
 
 -- two values of three bytes, equal; the same with other texts, which are a table; a rank that is not the word's
 abbrev pair : List ℕ → List ℕ
-pair texts = patch (patch soy 132 (put16 0 ++ put16 3 ++ put16 1 ++ put16 1 ++ put16 3 ++ put16 3)) 164 texts
+pair texts = patch (patch soy 136 (put16 0 ++ put16 3 ++ put16 1 ++ put16 1 ++ put16 3 ++ put16 3)) 168 texts
 
-words : (readTable (pair (bytes "abcabc")) ≡ Refused 9) × ((readTable (pair (bytes "abdabc")) >>= λ s. Got (s .name)) ≡ Got (bytes "soy")) × (changed 136 (put16 0) ≡ Refused 9)
+words : (readTable (pair (bytes "abcabc")) ≡ Refused 9) × ((readTable (pair (bytes "abdabc")) >>= λ s. Got (s .name)) ≡ Got (bytes "soy")) × (changed 140 (put16 0) ≡ Refused 9)
 unfolding opened soy
 words = (refl, refl, refl)

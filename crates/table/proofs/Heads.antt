@@ -18,8 +18,8 @@ use Rattle.table.specs.Read.{Headed}
 pub headed : (t : List ℕ) → headOk t ≡ true → Headed t (countsIn t) (placesIn t)
 unfolding headOk countsOk placesOk
 headed t e =
-    let c = fact _ e 2 in
-    let p = fact _ e 3 in
+    let c = fact _ e 3 in
+    let p = fact _ e 4 in
     record {
       size = eqb-true _ _ (fact _ e 0);
       counts = refl;

@@ -4,5 +4,6 @@ pub mod Walks
 pub mod Heads
 pub mod Spans
 pub mod Facts
+pub mod Older
 pub mod Examples
 pub mod Opened

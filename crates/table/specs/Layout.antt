@@ -1,5 +1,5 @@
 -- The layout of a table: "a header of counts and offsets, then events, clauses, keys, values and texts without gaps, zeros after".
--- A header of 76 bytes, rows of 16-bit numbers, then texts; all little-endian. Assumes nothing.
+-- A header of 80 bytes, rows of 16-bit numbers, then texts; all little-endian. Assumes nothing.
 use Prim.Native.Nat.{ℕ, _+_, _-_}
 use mathlib.Core.List.{List}
 use Rattle.list.specs.Numbered.{rows}
@@ -17,7 +17,7 @@ abbrev pub tableLength : ℕ
 tableLength = 32768
 
 abbrev pub headLength : ℕ
-headLength = 76
+headLength = 80
 
 abbrev pub eventLength : ℕ
 eventLength = 12
@@ -30,24 +30,32 @@ wordLength = 8
 
 -- ---- the header
 
+-- The number with which each table of this layout begins. It is above every interval, with which a table of the layout before began: its
+-- stops were whole basis points.
+abbrev pub layoutNumber : ℕ
+layoutNumber = 0xff00_0002
+
+unfoldable pub layoutIn : List ℕ → ℕ
+layoutIn t = u32 t 0
+
 unfoldable pub settingsIn : List ℕ → Settings
-settingsIn t = record { interval = u32 t 0; timeout = u32 t 4; stop = u32 t 8; t0 = u32 t 12 }
+settingsIn t = record { interval = u32 t 4; timeout = u32 t 8; stop = u32 t 12; t0 = u32 t 16 }
 
 unfoldable pub countsIn : List ℕ → Counts
-countsIn t = record { events = u32 t 16; clauses = u32 t 20; keys = u32 t 24; values = u32 t 28; name = u32 t 32; symbol = u32 t 36 }
+countsIn t = record { events = u32 t 20; clauses = u32 t 24; keys = u32 t 28; values = u32 t 32; name = u32 t 36; symbol = u32 t 40 }
 
 unfoldable pub placesIn : List ℕ → Places
 placesIn t =
     record {
-      events = u32 t 40;
-      clauses = u32 t 44;
-      keys = u32 t 48;
-      values = u32 t 52;
-      texts = u32 t 56;
-      names = u32 t 60;
-      keytexts = u32 t 64;
-      valuetexts = u32 t 68;
-      used = u32 t 72;
+      events = u32 t 44;
+      clauses = u32 t 48;
+      keys = u32 t 52;
+      values = u32 t 56;
+      texts = u32 t 60;
+      names = u32 t 64;
+      keytexts = u32 t 68;
+      valuetexts = u32 t 72;
+      used = u32 t 76;
     }
 
 -- ---- rows: the one at the start of l

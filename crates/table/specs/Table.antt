@@ -9,7 +9,7 @@ use Rattle.text.specs.Conditions.{allOf, every}
 use Rattle.signal.specs.Signal.{wildcard, scoreLimit}
 use Rattle.sheet.specs.Sheet.{kindOf, Clause, Event, Sheet, eventLimit, clauseLimit, nameLimit, intervalLimit, timeoutLimit, stopLimit, t0Limit}
 use Rattle.table_words.specs.Words.{clean, wordOk, keyParts, valueParts, distinct, ordered}
-use Rattle.table.specs.Layout.{tableLength, headLength, eventLength, clauseLength, wordLength, settingsIn, countsIn, placesIn, Parts, partsIn, eventText, wordText}
+use Rattle.table.specs.Layout.{tableLength, headLength, eventLength, clauseLength, wordLength, layoutNumber, layoutIn, settingsIn, countsIn, placesIn, Parts, partsIn, eventText, wordText}
 use Rattle.table.specs.declared.Settings.{Settings}
 use Rattle.table.specs.declared.Counts.{Counts}
 use Rattle.table.specs.declared.Places.{Places}
@@ -51,8 +51,16 @@ placesOk c p =
     ∷ leb (p .used) tableLength
     ∷ [])
 
+-- of this layout: "a table is accepted when .." it would be read as it was written
 unfoldable pub headOk : List ℕ → Bool
-headOk t = allOf (eqb (length t) tableLength ∷ settingsOk (settingsIn t) ∷ countsOk (countsIn t) ∷ placesOk (countsIn t) (placesIn t) ∷ [])
+headOk t =
+    allOf
+    (eqb (length t) tableLength
+    ∷ eqb (layoutIn t) layoutNumber
+    ∷ settingsOk (settingsIn t)
+    ∷ countsOk (countsIn t)
+    ∷ placesOk (countsIn t) (placesIn t)
+    ∷ [])
 
 -- spans that follow each other: each starts where the one before it ended, the first at `from`, and the last ends at `to`
 unfoldable pub follow {ℓ} : {X : Type ℓ} → (X → ℕ) → (X → ℕ) → ℕ → ℕ → List X → Bool

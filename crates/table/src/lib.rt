@@ -5,19 +5,22 @@ use le::get_u32;
 ghost use mathlib.Core.Path.{_≡_};
 ghost use Prim.Native.Nat.{_+_, _*_, _≤_};
 ghost use lib.ListN.{length};
-ghost use Rattle.table.specs.Layout.{headLength, eventLength, clauseLength, wordLength, settingsIn, countsIn, placesIn};
+ghost use Rattle.table.specs.Layout.{headLength, eventLength, clauseLength, wordLength, layoutIn, settingsIn, countsIn, placesIn};
 ghost use Rattle.table.specs.Read.{EventAt, ClauseAt, WordAt};
 
 // The lengths of a table, of its header and of the rows of each kind.
 pub const TABLE_LENGTH: usize = 32768;
 
-pub const HEAD_LENGTH: usize = 76;
+pub const HEAD_LENGTH: usize = 80;
 
 pub const EVENT_LENGTH: usize = 12;
 
 pub const CLAUSE_LENGTH: usize = 12;
 
 pub const WORD_LENGTH: usize = 8;
+
+// The number with which a table begins: another layout has another one.
+pub const LAYOUT_NUMBER: u32 = 0xff00_0002;
 
 // The code of the wildcard among a clause's values: -1 in 16 bits.
 pub const WILD_CODE: usize = 65535;
@@ -81,16 +84,24 @@ pub struct WordRow {
     pub order: u16,
 }
 
+// The number with which t begins.
+pub fn read_layout(t: &[u8]) -> u32
+    requires { ⌜ headLength ≤ length (now t) ⌝ }
+    ensures { λ r. ⌜ r ≡ layoutIn (now (t .entry)) ⌝ }
+{
+    get_u32(t, 0)
+}
+
 // The settings in the header of t.
 pub fn read_settings(t: &[u8]) -> Settings
     requires { ⌜ headLength ≤ length (now t) ⌝ }
     ensures { λ r. ⌜ r ≡ settingsIn (now (t .entry)) ⌝ }
 {
     Settings {
-        interval: get_u32(t, 0),
-        timeout: get_u32(t, 4),
-        stop: get_u32(t, 8),
-        t0: get_u32(t, 12),
+        interval: get_u32(t, 4),
+        timeout: get_u32(t, 8),
+        stop: get_u32(t, 12),
+        t0: get_u32(t, 16),
     }
 }
 
@@ -100,12 +111,12 @@ pub fn read_counts(t: &[u8]) -> Counts
     ensures { λ r. ⌜ r ≡ countsIn (now (t .entry)) ⌝ }
 {
     Counts {
-        events: get_u32(t, 16),
-        clauses: get_u32(t, 20),
-        keys: get_u32(t, 24),
-        values: get_u32(t, 28),
-        name: get_u32(t, 32),
-        symbol: get_u32(t, 36),
+        events: get_u32(t, 20),
+        clauses: get_u32(t, 24),
+        keys: get_u32(t, 28),
+        values: get_u32(t, 32),
+        name: get_u32(t, 36),
+        symbol: get_u32(t, 40),
     }
 }
 
@@ -115,15 +126,15 @@ pub fn read_places(t: &[u8]) -> Places
     ensures { λ r. ⌜ r ≡ placesIn (now (t .entry)) ⌝ }
 {
     Places {
-        events: get_u32(t, 40),
-        clauses: get_u32(t, 44),
-        keys: get_u32(t, 48),
-        values: get_u32(t, 52),
-        texts: get_u32(t, 56),
-        names: get_u32(t, 60),
-        keytexts: get_u32(t, 64),
-        valuetexts: get_u32(t, 68),
-        used: get_u32(t, 72),
+        events: get_u32(t, 44),
+        clauses: get_u32(t, 48),
+        keys: get_u32(t, 52),
+        values: get_u32(t, 56),
+        texts: get_u32(t, 60),
+        names: get_u32(t, 64),
+        keytexts: get_u32(t, 68),
+        valuetexts: get_u32(t, 72),
+        used: get_u32(t, 76),
     }
 }
 

@@ -10,11 +10,13 @@ use table::CLAUSE_LENGTH;
 use table::Counts;
 use table::EVENT_LENGTH;
 use table::HEAD_LENGTH;
+use table::LAYOUT_NUMBER;
 use table::Places;
 use table::Settings;
 use table::TABLE_LENGTH;
 use table::WORD_LENGTH;
 use table::read_counts;
+use table::read_layout;
 use table::read_places;
 use table::read_settings;
 ghost use mathlib.Core.Path.{_≡_};
@@ -109,6 +111,9 @@ pub fn head_ok(t: &[u8]) -> bool
     ensures { λ r. ⌜ r ≡ headOk (now (t .entry)) ⌝ }
 {
     if t.len() != TABLE_LENGTH {
+        return false;
+    }
+    if read_layout(t) != LAYOUT_NUMBER {
         return false;
     }
     if !settings_ok(read_settings(t)) {

@@ -2,10 +2,12 @@
 use Prim.Native.Nat.{ℕ}
 use mathlib.Core.List.{List, _++_}
 use mathlib.Core.Path.{_≡_, refl}
+use lib.Dec.{lit<}
 use lib.ListN.{length}
 use Rattle.le.specs.Le.{part, leBytes}
+use Rattle.le.specs.Field.{put32}
 use Rattle.le.proofs.Laws.{leNat-leBytes}
-use Rattle.table.specs.Layout.{headLength, settingsIn, countsIn, placesIn, Parts}
+use Rattle.table.specs.Layout.{headLength, layoutNumber, layoutIn, settingsIn, countsIn, placesIn, Parts}
 use Rattle.table.specs.declared.Settings.{Settings}
 use Rattle.table.specs.declared.Counts.{Counts}
 use Rattle.table.specs.declared.Places.{Places}
@@ -18,7 +20,11 @@ head-length p = refl
 
 module _ (s : Settings) (c : Counts) (q : Places) (rest : List ℕ) where
   abbrev headed : List ℕ
-  headed = settingsBytes s ++ countsBytes c ++ placesBytes q ++ rest
+  headed = put32 layoutNumber ++ settingsBytes s ++ countsBytes c ++ placesBytes q ++ rest
+
+  pub layout-back : layoutIn headed ≡ layoutNumber
+  unfolding layoutIn part leBytes
+  layout-back = leNat-leBytes 4 layoutNumber (lit< tt)
 
   pub settings-back : SettingsFit s → settingsIn headed ≡ s
   unfolding settingsIn settingsBytes part leBytes

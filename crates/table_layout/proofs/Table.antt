@@ -8,14 +8,14 @@ use borrow.Author.Tests.{le-leb, leb-true, eq-eqb}
 use Rattle.text.specs.Answer.{Got}
 use Rattle.text.proofs.Conditions.{none-left, _also_, sure, fact}
 use Rattle.sheet.specs.Sheet.{eventLimit, clauseLimit, nameLimit, intervalLimit, timeoutLimit, stopLimit, t0Limit}
-use Rattle.table.specs.Layout.{tableLength, eventLength, clauseLength, wordLength, settingsIn, countsIn, placesIn, eventIn, clauseIn, wordIn, Parts, partsIn}
+use Rattle.table.specs.Layout.{tableLength, eventLength, clauseLength, wordLength, layoutNumber, layoutIn, settingsIn, countsIn, placesIn, eventIn, clauseIn, wordIn, Parts, partsIn}
 use Rattle.table.specs.Table.{settingsOk, countsOk, placesOk, headOk, partsOk, isTable, sheetOf, readTable}
 use Rattle.table.specs.Compile.{Means}
 use Rattle.table.specs.declared.Settings.{Settings}
 use Rattle.table_layout.specs.Build.{eventBytes, clauseBytes, wordBytes, countsFor, placesFor, headBytes, usedBytes, zerosAfter, tableOf}
 use Rattle.table_layout.specs.Fits.{SettingsFit, CountsFit, PlacesFit, EventFits, ClauseFits, WordFits, Sized}
 use Rattle.table_layout.proofs.Rows.{event-length, clause-length, word-length, event-back, clause-back, word-back, rows-back}
-use Rattle.table_layout.proofs.Head.{settings-back, counts-back, places-back}
+use Rattle.table_layout.proofs.Head.{layout-back, settings-back, counts-back, places-back}
 use Rattle.table_layout.proofs.Placed.{here, behind, by-head, events-at, clauses-at, keys-at, values-at, name-at, symbol-at, names-at, keytexts-at, valuetexts-at, used-length}
 
 -- settings within their limits fit
@@ -29,8 +29,8 @@ settings-fit s e =
     record { interval = omega arith; timeout = omega arith; stop = omega arith; t0 = omega arith }
 
 module _ {p : Parts} (z : Sized p) where
-  -- 76 + 32 events, 256 clauses, 256 keys, 768 values and 16,384 bytes of texts
-  pub used-fits : placesFor p .used ≤ 28108
+  -- 80 + 32 events, 256 clauses, 256 keys, 768 values and 16,384 bytes of texts
+  pub used-fits : placesFor p .used ≤ 28112
   unfolding placesFor countsFor
   used-fits = omega arith
 
@@ -58,6 +58,10 @@ module _ {p : Parts} (z : Sized p) where
     valuetexts = omega arith;
     used = omega arith;
   }
+
+  table-layout : layoutIn (tableOf p) ≡ layoutNumber
+  unfolding headBytes
+  table-layout = rw (by-head p) (layout-back (p .settings) (countsFor p) (placesFor p) _)
 
   table-settings : settingsIn (tableOf p) ≡ p .settings
   unfolding headBytes
@@ -103,8 +107,8 @@ module _ {p : Parts} (z : Sized p) where
   pub table-head : headOk (tableOf p) ≡ true
   unfolding headOk
   table-head =
-      rw (table-settings, table-counts, table-places)
-      (sure (eq-eqb (length (tableOf p)) tableLength table-length also z .settings also counts-ok also places-ok also none-left))
+      rw (table-layout, table-settings, table-counts, table-places)
+      (sure (eq-eqb (length (tableOf p)) tableLength table-length also refl also z .settings also counts-ok also places-ok also none-left))
 
   -- ---- the parts
 

@@ -4,7 +4,7 @@ use Prim.Native.Nat.{ℕ, _+_, _-_, _*_}
 use mathlib.Core.List.{List, _++_, flatMap}
 use lib.ListN.{length, replicate}
 use Rattle.le.specs.Field.{put16, put32}
-use Rattle.table.specs.Layout.{tableLength, headLength, eventLength, clauseLength, wordLength, Parts}
+use Rattle.table.specs.Layout.{tableLength, headLength, eventLength, clauseLength, wordLength, layoutNumber, Parts}
 use Rattle.table.specs.declared.Settings.{Settings}
 use Rattle.table.specs.declared.Counts.{Counts}
 use Rattle.table.specs.declared.Places.{Places}
@@ -78,7 +78,7 @@ placesFor p = placesOf (countsFor p) (length (p .names)) (length (p .keytexts)) 
 -- ---- the table
 
 unfoldable pub headBytes : Parts → List ℕ
-headBytes p = settingsBytes (p .settings) ++ countsBytes (countsFor p) ++ placesBytes (placesFor p)
+headBytes p = put32 layoutNumber ++ settingsBytes (p .settings) ++ countsBytes (countsFor p) ++ placesBytes (placesFor p)
 
 unfoldable pub bodyBytes : Parts → List ℕ
 bodyBytes p =

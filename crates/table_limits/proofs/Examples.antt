@@ -38,7 +38,7 @@ clauses = (refl, refl, refl, refl, refl, refl, refl, refl)
 abbrev sheet : List ℕ → ℕ → Sheet
 sheet name stop = record { name = name; symbol = []; interval = 0; timeout = 0; stop = stop; t0 = false; events = [] }
 
-sheets : (fineSheet (sheet (replicate 256 97) 1_000_000) ≡ true) × (fineSheet (sheet (replicate 257 97) 0) ≡ false)
-    × (fineSheet (sheet (bytes "a\nb") 0) ≡ false) × (fineSheet (sheet [] 1_000_001) ≡ false)
+sheets : (fineSheet (sheet (replicate 256 97) 100_000_000) ≡ true) × (fineSheet (sheet (replicate 257 97) 0) ≡ false)
+    × (fineSheet (sheet (bytes "a\nb") 0) ≡ false) × (fineSheet (sheet [] 100_000_001) ≡ false)
 unfolding opened
 sheets = (refl, refl, refl, refl)

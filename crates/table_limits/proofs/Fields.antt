@@ -11,10 +11,11 @@ use lib.ListN.{length, getD}
 use Rattle.text.specs.Answer.{given}
 use Rattle.text.specs.Conditions.{every}
 use Rattle.text.specs.Number.{atMost, digitsTo, unsigned, i32Of}
-use Rattle.text.specs.Text.{same, split, underscore}
+use Rattle.text.specs.Text.{same, split, underscore, point}
 use Rattle.text.proofs.Refusals.{Gives, refuses, gives, then-with}
 use Rattle.utf8.specs.Alone.{textLimit, text}
 use Rattle.utf8.specs.Utf8.{utf8}
+use Rattle.stop.specs.Stop.{hundredthsIn, stopIn, hundredthsOf}
 use Rattle.operate.specs.Operate.{latin, chinese, codeFrom, operateOf}
 use Rattle.signal.proofs.Keys.{key-length}
 use Rattle.signal.specs.Signal.{Signal, keyOf, scoreLimit, score, signalOf}
@@ -52,17 +53,22 @@ pub record Name (s n : List ℕ) : Type 0 where
 pub name-gives : (s : List ℕ) → Gives (Name s) (name s)
 name-gives s = then-with (must-test 7 (leb (length s) nameLimit) tt) (λ _ h. gives (record { is = refl; short = leb-true (length s) nameLimit h }))
 
+-- a number within its limit
+limit-gives : (hi : ℕ) (o : Option ℕ) → Gives (λ n. n ≤ hi) (given 3 (atMost hi o))
+limit-gives hi none = refuses
+limit-gives hi (some v) = low (leb v hi) refl
+  where
+    low : (t : Bool) → leb v hi ≡ t → Gives (λ n. n ≤ hi) (given 3 (cond t (some v) none))
+    low true e = gives (leb-true v hi e)
+    low false e = refuses
+
 pub unsigned-gives : (hi : ℕ) (s : List ℕ) → Gives (λ n. n ≤ hi) (unsigned hi s)
 unfolding unsigned
-unsigned-gives hi s = go (digitsTo 10 s)
-  where
-    low : (v : ℕ) (t : Bool) → leb v hi ≡ t → Gives (λ n. n ≤ hi) (given 3 (cond t (some v) none))
-    low v true e = gives (leb-true v hi e)
-    low v false e = refuses
+unsigned-gives hi s = limit-gives hi (digitsTo 10 s)
 
-    go : (o : Option ℕ) → Gives (λ n. n ≤ hi) (given 3 (atMost hi o))
-    go none = refuses
-    go (some v) = low v (leb v hi) refl
+pub stop-gives : (hi : ℕ) (s : List ℕ) → Gives (λ n. n ≤ hi) (hundredthsOf hi s)
+unfolding hundredthsOf stopIn
+stop-gives hi s = limit-gives hi (hundredthsIn (split point s))
 
 -- ---- operates
 

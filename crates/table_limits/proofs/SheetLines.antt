@@ -22,7 +22,7 @@ use Rattle.text.proofs.Joined.{total-next, split-length}
 use Rattle.table_limits.proofs.Lines.{Line, field-at}
 use Rattle.table_limits.proofs.Given.{must-test, either-gives}
 use Rattle.table_limits.proofs.Facts.{event-sure, SheetFacts}
-use Rattle.table_limits.proofs.Fields.{Name, name-gives, unsigned-gives, operate-gives, Says, signal-gives}
+use Rattle.table_limits.proofs.Fields.{Name, name-gives, unsigned-gives, stop-gives, operate-gives, Says, signal-gives}
 use Rattle.table_limits.proofs.Events.{count-append, weight-append, add-length, add-count, add-weight, add-fine}
 
 -- a fine sheet that leaves n bytes of a text
@@ -101,7 +101,7 @@ module _ (n : ℕ) (p : List ℕ) (l : Line p) where
         (λ name a. then-with (name-gives (getD fields 2 []))
         (λ symbol b. then-with (unsigned-gives intervalLimit (getD fields 3 []))
         (λ interval c. then-with (unsigned-gives timeoutLimit (getD fields 4 []))
-        (λ timeout d. then-with (unsigned-gives stopLimit (getD fields 5 []))
+        (λ timeout d. then-with (stop-gives stopLimit (getD fields 5 []))
         (λ stop e. then-with (unsigned-gives t0Limit (getD fields 6 []))
         (λ t0 _. gives (begun name symbol interval timeout stop (eqb t0 1) a b c d e))))))))
 

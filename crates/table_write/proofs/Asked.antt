@@ -52,7 +52,7 @@ module _ {s es cs : List ℕ} {a : SheetAt} {numbers codes : List ℕ} {ks vs : 
   unfolding draft
   table-fits z he hc hn hv =
       let t = texts-fit he in
-      let used = subst (λ (q : Places). q .used ≤ 28108) (places-are s es cs a numbers codes ks vs t) (used-fits z) in
+      let used = subst (λ (q : Places). q .used ≤ 28112) (places-are s es cs a numbers codes ks vs t) (used-fits z) in
       record {
         settings = settings-fit (d .sheet .settings);
         events = record { room = he; near = λ i h. near es i (numbered-all EventFits (eventRow es) (a .events) (z .eventRows) i h) };

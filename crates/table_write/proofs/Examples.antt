@@ -19,7 +19,7 @@ abbrev cs : List ℕ
 cs = 0 ∷ 29 ∷ 1 ∷ 3 ∷ 5 ∷ 7 ∷ 14 ∷ 21 ∷ 10 ∷ []
 
 abbrev a : SheetAt
-a = record { name = 5; symbol = 8; interval = 0; timeout = 5; stop = 100; t0 = 0; events = 1; clauses = 1 }
+a = record { name = 5; symbol = 8; interval = 0; timeout = 5; stop = 10_000; t0 = 0; events = 1; clauses = 1 }
 
 abbrev numbers : List ℕ
 numbers = 0 ∷ []

@@ -9,7 +9,8 @@ use Rattle.list.proofs.Laws.{numbered-length}
 use Rattle.text.specs.Read.{Put}
 use Rattle.text.proofs.Put.{put-put}
 use Rattle.sheet.specs.declared.SheetAt.{SheetAt}
-use Rattle.table.specs.Layout.{tableLength, Parts}
+use Rattle.le.specs.Field.{put32}
+use Rattle.table.specs.Layout.{tableLength, layoutNumber, Parts}
 use Rattle.table_layout.specs.Build.{eventBytes, clauseBytes, wordBytes, rowBytes, settingsBytes, countsBytes, placesBytes, countsFor, placesFor, headBytes, bodyBytes, usedBytes, tableOf}
 use Rattle.table_layout.proofs.Fill.{put-table}
 use Rattle.table_parts.specs.Draft.{Words, wordRow, wordRows, wordTexts, clauseRow, clauseRows, namesAt, namesLength, eventRow, eventRows, draft}
@@ -68,7 +69,7 @@ module _ {s es cs : List ℕ} {a : SheetAt} {numbers codes : List ℕ} {ks vs : 
 
   -- what is written
   abbrev head : List ℕ
-  head = settingsBytes (settingsOf a) ++ countsBytes (countsOf a (ks .count) (vs .count)) ++ placesBytes (placesKept es a ks vs)
+  head = put32 layoutNumber ++ settingsBytes (settingsOf a) ++ countsBytes (countsOf a (ks .count) (vs .count)) ++ placesBytes (placesKept es a ks vs)
 
   abbrev rows : List ℕ
   rows =

@@ -1,8 +1,9 @@
-// Writes the header of a compiled table: the settings, the counts and the places.
+// Writes the header of a compiled table: the layout number, the settings, the counts and the places.
 //
 // A function that puts something writes it to dst from `at` on, and answers the place behind it.
 use sheet::SheetAt;
 use table::Counts;
+use table::LAYOUT_NUMBER;
 use table::Places;
 use table::Settings;
 ghost use mathlib.Core.Path.{_≡_};
@@ -10,7 +11,7 @@ ghost use mathlib.Core.List.{_++_};
 ghost use Prim.Native.Nat.{_+_, _<_, _≤_};
 ghost use lib.ListN.{length};
 ghost use Rattle.le.specs.Field.{put32};
-ghost use Rattle.table.specs.Layout.{tableLength, headLength};
+ghost use Rattle.table.specs.Layout.{tableLength, headLength, layoutNumber};
 ghost use Rattle.table_layout.specs.Build.{settingsBytes, countsBytes, placesBytes, placesOf};
 ghost use Rattle.table_layout.specs.Fits.{SettingsFit};
 ghost use Rattle.table_write_rows.specs.Rows.{PutOf};
@@ -149,11 +150,12 @@ pub fn put_head(
 ) -> usize
     requires { ⌜ HeadFits a keys values names keytexts valuetexts ⌝ }
     requires { ⌜ at + headLength ≤ length (now dst) ⌝ }
-    ensures { λ r. ⌜ PutOf headLength (now (dst .entry)) (now (dst .exit)) at (settingsBytes (settingsOf a) ++ countsBytes (countsOf a keys values) ++ placesBytes (placesOf (countsOf a keys values) names keytexts valuetexts)) r ⌝ }
+    ensures { λ r. ⌜ PutOf headLength (now (dst .entry)) (now (dst .exit)) at (put32 layoutNumber ++ settingsBytes (settingsOf a) ++ countsBytes (countsOf a keys values) ++ placesBytes (placesOf (countsOf a keys values) names keytexts valuetexts)) r ⌝ }
 {
     let c = counts_of(a, keys, values);
     let q = places_of(c, names as u32, keytexts as u32, valuetexts as u32);
-    let p = put_settings(dst, at, settings_of(a));
+    let p = put_four(dst, at, LAYOUT_NUMBER);
+    let p = put_settings(dst, p, settings_of(a));
     let p = put_counts(dst, p, c);
     put_places(dst, p, q)
 }

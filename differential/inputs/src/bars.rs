@@ -189,7 +189,7 @@ fn later(rng: &mut Rng, end: i64, instant: i64) -> i64 {
 
 /// A price that the stop is just met by, from an earlier bar's; or one of the season's kind.
 fn next_price(rng: &mut Rng, sheet: &Sheet, anchor: &Bar, prices: Prices) -> f64 {
-    let stop = sheet.stop as f64 / 10_000.0;
+    let stop = sheet.stop_points() / 10_000.0;
     let price = match rng.below(8) {
         0 => anchor.price,
         1 => anchor.price * (1.0 - stop),

@@ -4,7 +4,7 @@ use crate::Rng;
 use std::ops::Range;
 
 /// Bytes that mean something in the texts, and some that no UTF-8 has.
-const MARKS: &[u8] = b"|\n_-+#@0POXAYNBS\x00\x80\xc0\xed\xf5\xff";
+const MARKS: &[u8] = b"|\n_-+#@.,0POXAYNBS\x00\x80\xc0\xed\xf5\xff";
 
 /// A copy with one to three faults.
 pub fn damage(rng: &mut Rng, bytes: &[u8]) -> Vec<u8> {

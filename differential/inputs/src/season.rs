@@ -33,10 +33,13 @@ pub struct Sheet {
     pub symbol: String,
     pub interval: i64,
     pub timeout: i64,
+    /// In hundredths of a basis point.
     pub stop: i64,
     pub t0: bool,
-    /// Whether the numbers are written with ten digits.
+    /// Whether the numbers are written with ten digits (before the stop's point).
     pub padded: bool,
+    /// How many decimals the stop is written with at least, 0 to 2.
+    pub decimals: usize,
     /// Openings before exits.
     pub events: Vec<Event>,
 }
@@ -108,9 +111,33 @@ impl Sheet {
         let t0 = i64::from(self.t0);
         let events: String = self.events.iter().map(Event::text).collect();
         format!(
-            "P|{}|{}|{:0width$}|{:0width$}|{:0width$}|{t0:0width$}\n{events}",
-            self.name, self.symbol, self.interval, self.timeout, self.stop
+            "P|{}|{}|{:0width$}|{:0width$}|{}|{t0:0width$}\n{events}",
+            self.name,
+            self.symbol,
+            self.interval,
+            self.timeout,
+            self.stop_field(width)
         )
+    }
+
+    /// The stop with as many decimals as it needs, or more.
+    fn stop_field(&self, width: usize) -> String {
+        let (whole, rest) = (self.stop / 100, self.stop % 100);
+        let needed = match rest {
+            0 => 0,
+            _ if rest % 10 == 0 => 1,
+            _ => 2,
+        };
+        match needed.max(self.decimals) {
+            0 => format!("{whole:0width$}"),
+            1 => format!("{whole:0width$}.{}", rest / 10),
+            _ => format!("{whole:0width$}.{rest:02}"),
+        }
+    }
+
+    /// The stop in basis points: hundredths divided by 100, rounded once.
+    pub fn stop_points(&self) -> f64 {
+        self.stop as f64 / 100.0
     }
 
     pub fn clauses(&self) -> impl Iterator<Item = &Clause> {

@@ -3,6 +3,9 @@
 use crate::season::{Clause, Event, Kind, Sheet};
 use crate::{EVENT_LIMIT, LINE_LIMIT, Rng, TEXT_LIMIT, words};
 
+/// Stops whose hundredths over 1,000,000, rounded once, are another double than over 100 and then over 10,000.
+const TWICE_ROUNDED: [i64; 5] = [1_915, 2_498, 3_830, 4_996, 87_955];
+
 /// A sheet: mostly a few events over a few keys, now and then one of the largest size.
 pub fn sheet(rng: &mut Rng) -> Sheet {
     let mut sheet = settings(rng);
@@ -32,6 +35,7 @@ fn settings(rng: &mut Rng) -> Sheet {
         stop: stop(rng),
         t0: rng.once_in(2),
         padded: rng.once_in(10),
+        decimals: if rng.once_in(3) { 1 + rng.below(2) } else { 0 },
         events: Vec::new(),
     }
 }
@@ -52,11 +56,17 @@ fn timeout(rng: &mut Rng) -> i64 {
     }
 }
 
+/// In hundredths of a basis point; more than half are whole.
 fn stop(rng: &mut Rng) -> i64 {
-    match rng.below(8) {
-        0 => rng.between(0, 1_000_000),
-        1 => *rng.pick(&[1_000_000, 9_999, 10_000, 10_001, 20_000]),
-        _ => *rng.pick(&[0, 1, 100, 250, 300, 500, 1_000]),
+    match rng.below(12) {
+        0 => 100 * rng.between(0, 1_000_000),
+        1 => 100 * *rng.pick(&[1_000_000, 9_999, 10_000, 10_001, 20_000]),
+        2 => rng.between(0, 100_000_000),
+        3 => rng.between(0, 100_000),
+        4 => *rng.pick(&[1, 5, 10, 99, 101, 999_999, 1_000_001, 99_999_999]),
+        5 => *rng.pick(&[50, 725, 1_250, 15_625, 31_250]),
+        6 => *rng.pick(&TWICE_ROUNDED),
+        _ => 100 * *rng.pick(&[0, 1, 100, 250, 300, 500, 1_000]),
     }
 }
 

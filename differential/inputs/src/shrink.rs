@@ -86,9 +86,11 @@ fn simpler_sheet(season: &Season) -> impl Iterator<Item = Season> {
         with(season, |copy| copy.sheet.name = "n".into()),
         with(season, |copy| copy.sheet.symbol = "s".into()),
         with(season, |copy| copy.sheet.padded = false),
+        with(season, |copy| copy.sheet.decimals = 0),
         with(season, |copy| copy.sheet.interval = 0),
         with(season, |copy| copy.sheet.timeout = 0),
         with(season, |copy| copy.sheet.stop = 0),
+        with(season, |copy| copy.sheet.stop -= copy.sheet.stop % 100),
         with(season, |copy| copy.sheet.t0 = true),
     ];
     let events = 0..season.sheet.events.len();

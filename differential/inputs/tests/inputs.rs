@@ -20,8 +20,22 @@ fn sheets_are_within_the_limits() {
         assert!(sheet.events.len() <= EVENT_LIMIT && sheet.clauses().count() <= LINE_LIMIT);
         assert!(sheet.events.is_sorted_by_key(|event| event.exit));
         assert!(sheet.name.len() <= NAME_LIMIT && sheet.symbol.len() <= NAME_LIMIT);
+        assert!((0..=100_000_000).contains(&sheet.stop));
     }
     assert_eq!(longest, TEXT_LIMIT);
+}
+
+#[test]
+fn a_stop_field_says_the_stop() {
+    let mut decimals = [0; 3];
+    for Season { sheet, .. } in seasons(5_000) {
+        let text = sheet.text();
+        let field = text.split('|').nth(5).expect("a stop field");
+        let behind = field.split_once('.').map_or("", |(_, behind)| behind);
+        decimals[behind.len()] += 1;
+        assert_eq!(field.parse(), Ok(sheet.stop_points()));
+    }
+    assert!(decimals.iter().all(|count| *count > 500), "{decimals:?}");
 }
 
 #[test]

@@ -5,6 +5,7 @@ mod boundaries;
 pub mod lines;
 pub mod numbers;
 pub mod round;
+mod stops;
 pub mod tables;
 pub mod texts;
 

@@ -6,13 +6,14 @@ use inputs::{EVENT_LIMIT, LINE_LIMIT, NAME_LIMIT, Rng};
 use position_book::raw::TABLE_LENGTH;
 
 /// Where the header says that its parts start and the last ends.
-const PLACES: usize = 40;
-const HEADER_NUMBERS: usize = 19;
+const PLACES: usize = 44;
+const HEADER_NUMBERS: usize = 20;
+const LAYOUT: u32 = 0xff00_0002;
 
 /// A copy of a table, changed in one respect. It may still be a table.
 pub fn fault(rng: &mut Rng, table: &[u8]) -> Vec<u8> {
     let mut copy = table.to_vec();
-    match rng.below(14) {
+    match rng.below(16) {
         0 | 1 => header_fault(rng, &mut copy),
         2 | 3 => row_fault(rng, &mut copy),
         4 => exchange(rng, &mut copy),
@@ -21,6 +22,8 @@ pub fn fault(rng: &mut Rng, table: &[u8]) -> Vec<u8> {
         7 => repeated_word(rng, &mut copy),
         8 => gap(rng, &mut copy),
         9 => anywhere(rng, &mut copy),
+        10 => layout_fault(rng, &mut copy),
+        11 => former(&mut copy),
         _ => meaning_fault(rng, &mut copy),
     }
     copy
@@ -43,6 +46,7 @@ fn header_fault(rng: &mut Rng, table: &mut [u8]) {
         256,
         768,
         1_000_000,
+        100_000_000,
         32_768,
         2_147_483_647,
         4_102_444_800,
@@ -54,6 +58,29 @@ fn header_fault(rng: &mut Rng, table: &mut [u8]) {
         _ => rng.pick(&limits).wrapping_add(rng.below(2) as u32),
     };
     table[at..at + 4].copy_from_slice(&number.to_le_bytes());
+}
+
+/// Another layout number: a bit of it changed, its bytes turned round, a number beside it, or any.
+fn layout_fault(rng: &mut Rng, table: &mut [u8]) {
+    let number = match rng.below(4) {
+        0 => LAYOUT ^ 1 << rng.below(32),
+        1 => LAYOUT.swap_bytes(),
+        2 => LAYOUT.wrapping_add(rng.below(5) as u32).wrapping_sub(2),
+        _ => rng.bits() as u32,
+    };
+    table[..4].copy_from_slice(&number.to_le_bytes());
+}
+
+/// The same sheet in the former layout: no layout number, the stop in whole basis points, all four bytes earlier.
+fn former(table: &mut [u8]) {
+    let stop = u32::from_le_bytes(table[12..16].try_into().unwrap()) / 100;
+    let places: Vec<u32> = (0..9).map(|part| place(table, part) as u32).collect();
+    table.copy_within(4.., 0);
+    table[8..12].copy_from_slice(&stop.to_le_bytes());
+    for (part, place) in places.iter().enumerate() {
+        let at = PLACES - 4 + 4 * part;
+        table[at..at + 4].copy_from_slice(&place.wrapping_sub(4).to_le_bytes());
+    }
 }
 
 /// A number of a row moved by one, set to a limit, or to another row's.
@@ -229,7 +256,7 @@ fn setting_fault(rng: &mut Rng, sheet: &mut Sheet) {
     match rng.below(5) {
         0 => sheet.interval = 4_102_444_800 + more,
         1 => sheet.timeout = 2_147_483_647 + more,
-        2 => sheet.stop = 1_000_000 + more,
+        2 => sheet.stop = *rng.pick(&[1_000_000, 100_000_000]) + more,
         3 => sheet.name = name(rng),
         _ => sheet.symbol = name(rng),
     }

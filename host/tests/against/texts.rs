@@ -32,14 +32,57 @@ const FIELDS: [&str; 26] = [
     "a_b_c_d_e_f_-0",
 ];
 
+/// Stop fields (document 02, W2): both sides of the limit, one and two decimals, and each kind that is none.
+const STOPS: [&str; 38] = [
+    "12.5",
+    "12.50",
+    "7.25",
+    "0.05",
+    "0.0",
+    "00.10",
+    "500.00",
+    "999999.99",
+    "1000000",
+    "1000000.0",
+    "1000000.00",
+    "1000000.01",
+    "1000000.1",
+    "1000001.00",
+    "42949672.96",
+    "42949673.46",
+    "9999999999.99",
+    "0000000012.50",
+    "00000000012.5",
+    "12.",
+    ".5",
+    ".",
+    "..",
+    "12.500",
+    "0.001",
+    "12..5",
+    "1.2.3",
+    "12,5",
+    "12:5",
+    "+12.5",
+    "-12.5",
+    "12.+5",
+    " 12.5",
+    "12.5 ",
+    "12.x",
+    "1e2",
+    "12．5",
+    "12.５",
+];
+
 /// A copy of a text with a fault in its bytes, its fields, its lines or its length.
 pub fn fault(rng: &mut Rng, text: &[u8]) -> Vec<u8> {
-    match rng.below(8) {
+    match rng.below(9) {
         0 => (0..rng.below(80)).map(|_| rng.bits() as u8).collect(),
         1 => long(rng, text),
         2 => crowd(rng, text),
         3 => line_fault(rng, text),
         4 | 5 => field_fault(rng, text),
+        6 if text.starts_with(b"P|") => stop_fault(rng, text),
         _ => inputs::damage(rng, text),
     }
 }
@@ -93,6 +136,21 @@ fn line_fault(rng: &mut Rng, text: &[u8]) -> Vec<u8> {
         _ => drop(lines.last_mut().and_then(Vec::pop)),
     }
     lines.concat()
+}
+
+/// A sheet with another stop field, right or wrong; or one whose stop has a byte changed, more or less.
+fn stop_fault(rng: &mut Rng, text: &[u8]) -> Vec<u8> {
+    let mut fields: Vec<Vec<u8>> = text
+        .splitn(7, |byte| *byte == b'|')
+        .map(<[u8]>::to_vec)
+        .collect();
+    if let Some(stop) = fields.get_mut(5) {
+        *stop = match rng.below(3) {
+            0 => inputs::damage(rng, stop),
+            _ => rng.pick(&STOPS).as_bytes().to_vec(),
+        };
+    }
+    fields.join(&b'|')
 }
 
 /// A field replaced by another.

@@ -208,7 +208,7 @@ fn close(sheet: &Sheet, state: &mut State, bar: Bar, by_event: Option<u32>, clos
     };
     let why = if let Some(event) = by_event {
         Why::Event(event)
-    } else if gain < -f64::from(sheet.stop) / 10000.0 {
+    } else if gain < -sheet.stop_points() / 10000.0 {
         Why::Stop
     } else if i64::from(bar.id) - i64::from(reference.bar.id) > i64::from(sheet.timeout) {
         Why::Timeout

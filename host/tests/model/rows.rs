@@ -44,7 +44,7 @@ fn description(sheet: &Sheet, record: &Record) -> String {
     };
     match record.why {
         Why::Event(event) => sheet.events[event as usize].name.clone(),
-        Why::Stop => format!("{closing}@{}BP止损", sheet.stop),
+        Why::Stop => format!("{closing}@{}BP止损", sheet.stop_points()),
         Why::Timeout => format!("{closing}@{}K超时", sheet.timeout),
     }
 }

@@ -8,7 +8,8 @@ use super::{Answer, bytes_at, number, put, require, u32_at};
 use std::ops::Range;
 
 pub const LENGTH: usize = 32_768;
-const HEADER: usize = 76;
+const LAYOUT: u32 = 0xff00_0002;
+const HEADER: usize = 80;
 const EVENT_ROW: usize = 12;
 const CLAUSE_ROW: usize = 12;
 const WORD_ROW: usize = 8;
@@ -82,9 +83,11 @@ fn first_uses<'a>(words: impl Iterator<Item = &'a String>) -> Vec<&'a str> {
     listed
 }
 
-/// The header: settings, counts, the lengths of name and symbol, and where each of the parts starts and the last ends.
+/// The header: the layout number, settings, counts, the lengths of name and symbol, and where each of the parts starts
+/// and the last ends.
 fn header(sheet: &Sheet, counts: [usize; 4], lengths: &[usize]) -> Vec<u8> {
-    let mut numbers = vec![sheet.interval, sheet.timeout, sheet.stop, sheet.t0.into()];
+    let mut numbers = vec![LAYOUT, sheet.interval, sheet.timeout, sheet.stop];
+    numbers.push(sheet.t0.into());
     numbers.extend(counts.map(|count| count as u32));
     numbers.extend([sheet.name.len() as u32, sheet.symbol.len() as u32]);
     let mut place = HEADER as u32;
@@ -194,8 +197,12 @@ fn decode(table: &[u8]) -> Option<Sheet> {
     })
 }
 
+/// The header of this layout; the numbers behind the layout number are in range, and the places follow each other.
 fn read_header(table: &[u8]) -> Option<Header> {
-    let numbers: [u32; 19] = std::array::from_fn(|n| u32_at(table, 4 * n));
+    if u32_at(table, 0) != LAYOUT {
+        return None;
+    }
+    let numbers: [u32; 19] = std::array::from_fn(|n| u32_at(table, 4 + 4 * n));
     let [interval, timeout, stop, t0, ..] = numbers;
     let limits = [
         INTERVAL_LIMIT,

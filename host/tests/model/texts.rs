@@ -1,4 +1,4 @@
-//! Document 01, "Texts": lines and fields, signals, operates, the position sheet.
+//! Document 01, "Texts": lines and fields, signals, operates, the position sheet; its stop by document 02, W2.
 
 use super::{Answer, number, put, require};
 use position_book::raw::{NameAnswer, OperateAnswer, SignalAnswer};
@@ -9,7 +9,8 @@ const CLAUSE_LIMIT: usize = 256;
 pub const NAME_LIMIT: usize = 256;
 pub const INTERVAL_LIMIT: u32 = 4_102_444_800;
 pub const TIMEOUT_LIMIT: u32 = 2_147_483_647;
-pub const STOP_LIMIT: u32 = 1_000_000;
+/// In hundredths of a basis point.
+pub const STOP_LIMIT: u32 = 100_000_000;
 pub const SCORE_LIMIT: i32 = 100;
 pub const WILDCARD: &str = "任意";
 
@@ -30,6 +31,7 @@ pub struct Sheet {
     pub symbol: String,
     pub interval: u32,
     pub timeout: u32,
+    /// In hundredths of a basis point.
     pub stop: u32,
     pub t0: bool,
     pub events: Vec<Event>,
@@ -65,6 +67,11 @@ pub struct Signal {
 }
 
 impl Sheet {
+    /// The stop in basis points: hundredths divided by 100, rounded once.
+    pub fn stop_points(&self) -> f64 {
+        f64::from(self.stop) / 100.0
+    }
+
     /// All clauses in the order of the sheet's lines.
     pub fn clauses(&self) -> impl Iterator<Item = &Clause> {
         self.events.iter().flat_map(|event| &event.clauses)
@@ -97,6 +104,19 @@ fn unsigned(field: &str, limit: u32) -> Answer<u32> {
     let value: u64 = field.parse().unwrap();
     require(value <= u64::from(limit), 3)?;
     Ok(value as u32)
+}
+
+/// A stop in hundredths: an unsigned field, then perhaps a point and one or two digits, up to its limit (3).
+fn read_stop(field: &str) -> Answer<u32> {
+    let (whole, decimals) = field.split_once('.').unwrap_or((field, "0"));
+    let tenfold = match decimals.len() {
+        1 => 10,
+        2 => 1,
+        _ => return Err(3),
+    };
+    let hundredths = 100 * unsigned(whole, 1_000_000)? + tenfold * unsigned(decimals, 99)?;
+    require(hundredths <= STOP_LIMIT, 3)?;
+    Ok(hundredths)
 }
 
 /// A name or symbol within its limit (7).
@@ -152,7 +172,7 @@ fn first_line(line: &str) -> Answer<Sheet> {
         symbol: name_field(symbol)?,
         interval: unsigned(interval, INTERVAL_LIMIT)?,
         timeout: unsigned(timeout, TIMEOUT_LIMIT)?,
-        stop: unsigned(stop, STOP_LIMIT)?,
+        stop: read_stop(stop)?,
         t0: unsigned(t0, 1)? == 1,
         events: Vec::new(),
     })

@@ -23,13 +23,13 @@ returns c =
 returns-2 : tie.Need-returns-2
 unfolding bytes encoded partsIn sheetOf
 returns-2 c =
-    let d = c .before .before .before .before .before in
+    let d = c .before .before .before .before .before .before in
     part-as (stop-part (sheetOf (partsIn (d .before .before .before .before .before .args .t .now))) (d .before .before .before .before .before .args .r) (d .before .enum-told .given .1) (ap (λ s. s .stop) (d .read-settings .ensures))) (c .before .before .put-closing .ensures)
 
 returns-3 : tie.Need-returns-3
 unfolding bytes encoded partsIn sheetOf
 returns-3 c =
-    let d = c .before .before .before .before .before in
+    let d = c .before .before .before .before .before .before in
     part-as (timeout-part (sheetOf (partsIn (d .before .before .before .before .before .args .t .now))) (d .before .before .before .before .before .args .r) (d .before .enum-told2 .given .1) (ap (λ s. s .timeout) (d .read-settings2 .ensures))) (c .before .before .put-closing2 .ensures)
 
 pub put-description-spec : {M : Type 1} → statement M
@@ -43,9 +43,12 @@ put-description-spec =
     (λ c. search needs)
     (λ c κs. head-room _ (c .before .before .before .before .pre .0))
     (λ c. search needs)
+    (λ c. search needs)
     (λ c κs. search needs)
     (λ c. search needs)
     (λ c κs. head-room _ (c .before .before .before .before .pre .0))
+    (λ c. search needs)
+    (λ c. search needs)
     (λ c. search needs)
     (λ c κs. search needs)
     (λ c. search needs)

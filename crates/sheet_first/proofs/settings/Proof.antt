@@ -3,8 +3,10 @@ use Prim.Native.Nat.{_+_}
 use native.Mathlib.Omega.{arith}
 use mathlib.Core.Path.{_≡_, _∙_, sym, ap}
 use mathlib.Core.Option.{some}
+use lib.Seq.{slice}
 use borrow.Author.Needs.{needs}
 use Rattle.text_number.specs.Read.{numberOf}
+use Rattle.stop.specs.Stop.{stopIn}
 use Rattle.sheet.specs.Sheet.{intervalLimit, timeoutLimit, stopLimit}
 use Rattle.text.proofs.Cut.{cut, cut-rest}
 use Rattle.sheet.proofs.Fields.{Cut}
@@ -36,8 +38,8 @@ timeout : (w : tie.After-find3) → let v = w .before .before .before .before .b
 timeout w = sym (ap numberOf (w .before .before .timeout .given .1)) ∙ w .before .before .before .before .unsigned2 .ensures
 
 stop : (w : tie.After-known-told3) → let u = w .before .before .before .before in let v = u .before .before .before .before .before in
-    some (w .before .stop .given .0 .0) ≡ fieldOf (v .before .before .before .before .before .before .before .args .s .now) stopLimit (v .find2 .result + 1) (u .find3 .result)
-stop w = sym (ap numberOf (w .before .stop .given .1)) ∙ w .before .before .before .unsigned3 .ensures
+    some (w .before .stop .given .0 .0) ≡ stopIn stopLimit (slice (v .find2 .result + 1) (u .find3 .result) (v .before .before .before .before .before .before .before .args .s .now))
+stop w = sym (ap numberOf (w .before .stop .given .1)) ∙ w .before .before .before .read-stop .ensures
 
 returns : tie.Need-returns
 returns c =
@@ -62,10 +64,10 @@ returns-3 c =
     let v = u .before .before .before .before .before in
     let w = v .before .before .before .before .before in
     bad-stop (w .before .before .pre .0) (cut-interval w) (interval v) (cut-timeout v) (timeout u) (cut-stop u)
-    (sym (ap numberOf (c .enum-told3 .given .1)) ∙ c .before .before .unsigned3 .ensures)
+    (sym (ap numberOf (c .enum-told3 .given .1)) ∙ c .before .before .read-stop .ensures)
 
-unsigned-requires-4 : tie.Need-unsigned-requires-4
-unsigned-requires-4 c κs = cut-rest (cut-stop (c .before .before .before .before))
+unsigned-requires-3 : tie.Need-unsigned-requires-3
+unsigned-requires-3 c κs = cut-rest (cut-stop (c .before .before .before .before))
 
 returns-4 : tie.Need-returns-4
 returns-4 c =
@@ -74,7 +76,7 @@ returns-4 c =
     let v = u .before .before .before .before .before in
     let w = v .before .before .before .before .before in
     bad-t0 (w .before .before .pre .0) (cut-interval w) (interval v) (cut-timeout v) (timeout u) (cut-stop u) (stop t)
-    (sym (ap numberOf (c .enum-told4 .given .1)) ∙ c .before .before .unsigned4 .ensures)
+    (sym (ap numberOf (c .enum-told4 .given .1)) ∙ c .before .before .unsigned3 .ensures)
 
 returns-5 : tie.Need-returns-5
 returns-5 c =
@@ -83,7 +85,7 @@ returns-5 c =
     let v = u .before .before .before .before .before in
     let w = v .before .before .before .before .before in
     settings-are (w .before .before .pre .0) (cut-interval w) (interval v) (cut-timeout v) (timeout u) (cut-stop u) (stop t)
-    (sym (ap numberOf (c .before .t0 .given .1)) ∙ c .before .before .before .unsigned4 .ensures)
+    (sym (ap numberOf (c .before .t0 .given .1)) ∙ c .before .before .before .unsigned3 .ensures)
 
 pub settings-spec : {M : Type 1} → statement M
 settings-spec =
@@ -111,7 +113,7 @@ settings-spec =
     (λ c. search needs)
     returns-3
     (λ c. search needs)
-    unsigned-requires-4
+    unsigned-requires-3
     (λ c. search needs)
     (λ c. search needs)
     returns-4

@@ -1,4 +1,4 @@
--- The settings, the counts and the places, one behind another. Assumes nothing.
+-- The layout number, the settings, the counts and the places, one behind another. Assumes nothing.
 use borrow.Author.Needs.{needs}
 use Rattle.table_write_rows.proofs.Joined.{_then_}
 use Rattle.table_write_head.proofs.put_head.Statement.{statement}
@@ -12,8 +12,9 @@ returns c =
     let z = c .before .before in
     let y = z .before .before .before .before in
     let x = y .before .before .before .before in
-    let q = x .before .before .before in
-    rw (x .before .settings-of .ensures, q .places-of .ensures, q .before .counts-of .ensures) at (x .put-settings .ensures then y .put-counts .ensures then z .put-places .ensures)
+    let w = x .before .before .before .before .before in
+    let q = w .before .before in
+    rw (x .before .settings-of .ensures, q .places-of .ensures, q .before .counts-of .ensures) at (w .put-four .ensures then x .put-settings .ensures then y .put-counts .ensures then z .put-places .ensures)
 
 pub put-head-spec : {M : Type 1} → statement M
 put-head-spec =
@@ -24,6 +25,7 @@ put-head-spec =
     (λ c. search needs)
     (λ c. search needs)
     places-of-requires
+    (λ c κs. search needs)
     (λ c κs. search needs)
     (λ c κs. search needs)
     (λ c κs. search needs)
