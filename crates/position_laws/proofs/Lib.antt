@@ -6,3 +6,4 @@ pub mod Steps
 pub mod Sound
 pub mod HeadReach
 pub mod Reach
+pub mod Whole

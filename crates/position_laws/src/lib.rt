@@ -1,1 +1,2 @@
-// Theorems only: what holds of the plain machine: one record a bar, what a bar adds, and the states that are reached.
+// Theorems only: what holds of the plain machine: one record a bar, what a bar adds, the states that are reached, and that whole stops give
+// the books that they gave.

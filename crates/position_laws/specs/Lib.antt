@@ -1,0 +1,2 @@
+-- The definitions that serve to state theorems.
+pub mod Before
