@@ -1,6 +1,6 @@
 #!/usr/bin/env python3
-"""Sets the model against every row of the proved tables (crates/position/specs/Cases.antt, Further.antt): the printed lines and the
-records' operates of each run, and the doubles that are rounded."""
+"""Sets the model against every row of the proved tables (crates/position/specs/Cases.antt, Further.antt, TradingDay.antt):
+the printed lines and the records' operates of each run, and the doubles that are rounded."""
 import os
 import re
 import sys
@@ -9,7 +9,7 @@ sys.dont_write_bytecode = True
 import model
 
 SPECS = os.path.join(os.path.dirname(os.path.abspath(__file__)), "..", "crates", "position", "specs")
-TEXT = "".join(open(os.path.join(SPECS, name), encoding="utf-8").read() for name in ("Cases.antt", "Further.antt"))
+TEXT = "".join(open(os.path.join(SPECS, name), encoding="utf-8").read() for name in ("Cases.antt", "Further.antt", "TradingDay.antt"))
 NAMES = dict(re.findall(r'^(up|down) = (".*")$', TEXT, re.M))
 
 

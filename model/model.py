@@ -1,6 +1,7 @@
 #!/usr/bin/env python3
 """A plain model of document 01: sheets, matching, the machine, the book's bytes and checks, rows, the run program; and
-of document 02: W1, the exchange's comma lines, and W2, stops in hundredths of a basis point.
+of document 02: W1, the exchange's comma lines, W2, stops in hundredths of a basis point, and W3, the trading day that opens
+in the evening.
 
 It is independent of the definitions and of the code: it was written before they were read. (One line was changed after that:
 `choose` asks openings before exits in a table that mixes them.) Tables are left out: a call here takes the sheet.
@@ -20,6 +21,7 @@ IMAX = 4_102_444_799_999_999
 OMAX = 86_399
 IDMAX = 2_147_483_647
 DAY = 86_400_000_000
+MINUTE = 60_000_000
 TEXT = 16_384
 
 
@@ -213,6 +215,19 @@ def name_field(b):
     return b
 
 
+def first_line(sh, f):
+    """the position: six values, or seven (02, W3), the last in minutes; without it that is 0"""
+    if f[0] != b"P" or len(f) not in (7, 8):
+        raise Refused(2)
+    sh.name = name_field(f[1])
+    sh.symbol = name_field(f[2])
+    sh.interval = unsigned(f[3], 4_102_444_800)
+    sh.timeout = unsigned(f[4], 2_147_483_647)
+    sh.stop = read_stop(f[5])
+    sh.t0 = unsigned(f[6], 1)
+    sh.evening = unsigned(f[7], 1_439) if len(f) == 8 else 0
+
+
 def read_sheet(text):
     check_text(text)
     ls = lines_of(text)
@@ -227,14 +242,7 @@ def read_sheet(text):
         if not ended:
             raise Refused(2)
         if n == 0:
-            if tag != b"P" or len(f) != 7:
-                raise Refused(2)
-            sh.name = name_field(f[1])
-            sh.symbol = name_field(f[2])
-            sh.interval = unsigned(f[3], 4_102_444_800)
-            sh.timeout = unsigned(f[4], 2_147_483_647)
-            sh.stop = read_stop(f[5])
-            sh.t0 = unsigned(f[6], 1)
+            first_line(sh, f)
         elif tag in (b"O", b"X"):
             if len(f) != 3:
                 raise Refused(2)
@@ -320,8 +328,9 @@ class Time:
     def local(self):
         return self.instant + self.offset * 1_000_000
 
-    def day(self):
-        return self.local() // DAY
+    def day(self, evening):
+        """the trading day (02, W3): the evening's minutes are added to local time before the day is taken"""
+        return (self.local() + evening * MINUTE) // DAY
 
 
 class Bar:
@@ -380,7 +389,7 @@ def step(sh, st, bar, d):
         st.changed = 1
 
     def free(last):
-        return sh.t0 == 1 or last is None or last.day() != now.day()
+        return sh.t0 == 1 or last is None or last.day(sh.evening) != now.day(sh.evening)
 
     # steps 3 and 4: each side's open, pos, last open; the other side's close, pos, last open
     for open_, pos, own, close, other_pos, other in ((LO, LONG, "lo", SE, SHORT, "so"), (SO, SHORT, "so", LE, LONG, "lo")):
@@ -873,6 +882,11 @@ if __name__ == "__main__":
     assert rnd(2.5) == 3.0 and rnd(-2.5) == -3.0 and bits(rnd(-0.3)) == 1 << 63
     assert rnd(0.49999999999999994) == 0.0
     assert [stop_text(h) for h in (1250, 725, 5, 50_000, 0, 100_000_000)] == ["12.5", "7.25", "0.05", "500", "0", "1000000"]
+    # the local day -1 from 21:00 on, day 0 at both sides of 21:00, and both sides of midnight, without a value and with 180
+    evening = 21 * 60 * MINUTE
+    moments = [evening - DAY - 1, evening - DAY, -1, 0, evening - 1, evening, DAY - 1, DAY]
+    assert [Time(t, 0).day(0) for t in moments] == [-1, -1, -1, 0, 0, 0, 0, 1]
+    assert [Time(t, 0).day(180) for t in moments] == [-1, 0, 0, 0, 0, 1, 1, 1]
     plain = read_sheet(b"P|soy|M1|0|5|100|0\n")
     one = feed(plain, fresh(bytes(160))[1], Bar(1, 0, 0, bits(1.0)), b"")[1]
     assert [hold_row(plain, one, i)[0] for i in (-1, 0, 1)] == [15, 0, 15]

@@ -59,7 +59,7 @@ def table_of(sh):
     places = [HEAD]
     for p in parts:
         places.append(places[-1] + len(p))
-    head = struct.pack("<5I", LAYOUT, sh.interval, sh.timeout, sh.stop, sh.t0)
+    head = struct.pack("<4I2H", LAYOUT, sh.interval, sh.timeout, sh.stop, sh.t0, sh.evening)
     head += struct.pack("<6I", len(sh.events), first, len(keys.words), len(values.words), len(sh.name), len(sh.symbol))
     head += struct.pack("<9I", *places)
     used = head + b"".join(parts)
@@ -108,9 +108,9 @@ def words_of(rows, texts, parts):
 def read_table(t):
     """the sheet that a table means; 9 where it is none"""
     need(len(t) == LENGTH)
-    layout, interval, timeout, stop, t0 = struct.unpack_from("<5I", t, 0)
+    layout, interval, timeout, stop, t0, evening = struct.unpack_from("<4I2H", t, 0)
     need(layout == LAYOUT)
-    need(interval <= 4_102_444_800 and timeout <= 2_147_483_647 and stop <= 100_000_000 and t0 <= 1)
+    need(interval <= 4_102_444_800 and timeout <= 2_147_483_647 and stop <= 100_000_000 and t0 <= 1 and evening <= 1_439)
     e, c, k, v, name, symbol = struct.unpack_from("<6I", t, 20)
     need(e <= 32 and c <= 256 and k <= 256 and v <= 768 and name <= 256 and symbol <= 256)
     places = struct.unpack_from("<9I", t, 44)
@@ -126,7 +126,7 @@ def read_table(t):
         return [struct.unpack_from(f"<{w}H", b, 2 * w * j) for j in range(len(b) // (2 * w))]
 
     sh = model.Sheet()
-    sh.interval, sh.timeout, sh.stop, sh.t0 = interval, timeout, stop, t0
+    sh.interval, sh.timeout, sh.stop, sh.t0, sh.evening = interval, timeout, stop, t0, evening
     sh.name, sh.symbol = clean(section(4)[:name]), clean(section(4)[name:])
     keys = words_of(rows(2, 4), section(6), 3)
     values = words_of(rows(3, 4), section(7), 1)
@@ -235,7 +235,7 @@ class Script:
 def shown(sh):
     """a sheet as plain values"""
     events = [(e.exit, e.op, e.name, [(c.kind, c.key, c.vs, c.score) for c in e.clauses]) for e in sh.events]
-    return sh.name, sh.symbol, sh.interval, sh.timeout, sh.stop, sh.t0, events
+    return sh.name, sh.symbol, sh.interval, sh.timeout, sh.stop, sh.t0, sh.evening, events
 
 
 def main(script):

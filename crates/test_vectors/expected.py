@@ -171,9 +171,10 @@ def stored(text):
     return joined(*(struct.unpack_from(kind, data)[0] for kind in ("<Q", "<q", "<I", "<i", "<H")), bits(struct.unpack("<d", data)[0]))
 
 
-def local_time(instant, offset):
+def local_time(instant, offset, evening):
+    """Local time, and the day of local time with the evening's minutes added (document 02, W3)."""
     local = int(instant) + int(offset) * 1_000_000
-    return joined(local, local // DAY)
+    return joined(local, (local + int(evening) * 60_000_000) // DAY)
 
 
 def elapsed(earlier, later):

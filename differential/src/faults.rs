@@ -54,11 +54,12 @@ const WRONG_IN_BARS: [&str; 9] = [
 ];
 
 /// What each setting may not have, the first number among it, and texts that are no number in any of them.
-const PAST_THE_SETTINGS: [&[&str]; 4] = [
+const PAST_THE_SETTINGS: [&[&str]; 5] = [
     &["4102444801", "1.5"],
     &["2147483648", "1.5"],
     &["1000001", "1000000.01", "42949672.96"],
     &["2", "1.0"],
+    &["1440", "65536", "180.0", "21:00"],
 ];
 const NO_NUMBERS: [&str; 13] = [
     "",
@@ -194,29 +195,40 @@ fn wrong_line(rng: &mut Rng, season: &Season) -> String {
     let (first, events) = sheet.split_once('\n').expect("a sheet has a first line");
     let bars = bars(season);
     let wrong = *rng.pick(&WRONG_IN_SHEET);
-    match rng.below(7) {
+    match rng.below(8) {
         0 => format!("{sheet}{bars}"),
         1 => format!("{sheet}-"),
         2 => format!("{events}-\n{bars}"),
         3 => format!("{first}\nA|a_b_c_d_e_f_1\n{events}-\n{bars}"),
         4 => format!("{sheet}-\nS|k|v\n{bars}"),
         5 => with_exit(season, wrong),
+        6 => with_fields(season, |fields| {
+            fields.resize(*rng.pick(&[2, 6, 9, 10]), "0".into())
+        }),
         _ => season.text() + *rng.pick(&WRONG_IN_BARS),
     }
 }
 
-/// The season's input with another text in a field of its first line.
-fn with_field(season: &Season, place: usize, field: &str) -> String {
+/// The season's input with the fields of its first line changed.
+fn with_fields(season: &Season, change: impl FnOnce(&mut Vec<String>)) -> String {
     let text = season.text();
     let (first, rest) = text.split_once('\n').expect("a sheet has a first line");
-    let mut fields: Vec<&str> = first.split('|').collect();
-    fields[place] = field;
+    let mut fields: Vec<String> = first.split('|').map(str::to_string).collect();
+    change(&mut fields);
     format!("{}\n{rest}", fields.join("|"))
+}
+
+/// The season's input with another text in a field of its first line, or in one more behind its last.
+fn with_field(season: &Season, place: usize, field: &str) -> String {
+    with_fields(season, |fields| {
+        fields.resize(fields.len().max(place + 1), "0".into());
+        fields[place] = field.into();
+    })
 }
 
 /// A setting that is malformed or just outside its range.
 fn wrong_setting(rng: &mut Rng, season: &Season) -> String {
-    let setting = rng.below(4);
+    let setting = rng.below(5);
     let wrong = if rng.once_in(2) {
         *rng.pick(PAST_THE_SETTINGS[setting])
     } else {

@@ -21,7 +21,7 @@ type BarRule = (&'static str, fn(&Moment) -> bool);
 type PairRule = (&'static str, fn(&PairRow) -> bool);
 type HoldRule = (&'static str, fn(&Hold) -> bool);
 
-const OF_A_BAR: [BarRule; 29] = [
+const OF_A_BAR: [BarRule; 31] = [
     ("no event matches", |m| m.answer.decision == 0),
     ("an event without clauses matches", |m| {
         m.event().is_some_and(|event| event.clauses.is_empty())
@@ -92,6 +92,12 @@ const OF_A_BAR: [BarRule; 29] = [
     }),
     ("kept on the same local day of another UTC day", |m| {
         m.days() == Some((false, true)) && m.is_held() && m.closes() == Some(m.before.pos)
+    }),
+    ("closed on another day under a seventh value of 0", |m| {
+        m.says_midnight() && m.is_another_day() && m.after.pos == Pos::Flat
+    }),
+    ("exit refused on its day under a seventh value of 0", |m| {
+        m.says_midnight() && m.closes() == Some(m.before.pos) && m.is_held()
     }),
 ];
 
@@ -296,5 +302,15 @@ impl Moment<'_> {
         let (open, now) = (self.last_open(self.before.pos)?, self.now());
         let utc = open.naive_utc().date() == now.naive_utc().date();
         (!self.sheet.t0).then(|| (utc, open.date_naive() == now.date_naive()))
+    }
+
+    /// Whether the side held was opened on another local day; under a sheet without t0.
+    fn is_another_day(&self) -> bool {
+        self.days().is_some_and(|(_, local)| !local)
+    }
+
+    /// Whether the sheet says by its seventh value what holds without it.
+    fn says_midnight(&self) -> bool {
+        self.sheet.evening == Some(0)
     }
 }

@@ -92,8 +92,11 @@ fn empty() -> Position {
     serde_json::from_str(EMPTY).expect("the Rust reads a position")
 }
 
-/// The Rust's position of a sheet, or what it says against it.
+/// The Rust's position of a sheet, or what it says against it. Its days open at midnight, and it knows no others.
 pub fn position(sheet: &Sheet) -> Result<Position, String> {
+    if sheet.evening_minutes() != 0 {
+        return Err("the Rust has no trading day that opens in the evening".into());
+    }
     let events = |exit| {
         let events = sheet.events.iter().filter(move |event| event.exit == exit);
         events.map(event).collect::<Result<_, _>>()

@@ -81,6 +81,7 @@ pub fn sheet(size: Size) -> Sheet {
         stop: 30_000,
         decimals: 0,
         t0: false,
+        evening: None,
         padded: false,
         events: (0..size.events).map(event).collect(),
     }

@@ -74,7 +74,10 @@ fn fed(bars: usize, signals: usize) -> Vec<Fed> {
 fn comma_line(bar: &Bar) -> String {
     let local = position_book::Instant(bar.instant).local(bar.offset);
     let (hours, minutes) = (bar.offset / 3_600, bar.offset / 60 % 60);
-    format!("{},{local}+{hours:02}:{minutes:02},{:.6}", bar.id, bar.price)
+    format!(
+        "{},{local}+{hours:02}:{minutes:02},{:.6}",
+        bar.id, bar.price
+    )
 }
 
 /// Both sides of a book, empty, and the table.

@@ -18,6 +18,8 @@ impl Table {
     /// let table = Table::compile("P|soy|M1|0|5|100|0\nO|LO|go\nA|d1_u_w_up_任意_任意_10\n")?;
     /// assert_eq!(table.event_name(0)?, "go");
     /// assert_eq!(Table::compile("O|LO|go\n"), Err(Refusal::Malformed));
+    /// // The trading day opens at 21:00, 180 minutes before midnight.
+    /// assert!(Table::compile("P|soy|M1|0|5|100|0|180\n").is_ok());
     /// # Ok::<(), Refusal>(())
     /// ```
     pub fn compile(sheet: impl AsRef<[u8]>) -> Result<Table, Refusal> {
@@ -27,7 +29,7 @@ impl Table {
     }
 
     /// Takes a table that was stored: bytes that are no table are refused, and so is one of an earlier layout, whose
-    /// sheet must be compiled again.
+    /// sheet must be compiled again. One from before sheets had an evening is taken, and means what it meant.
     ///
     /// ```
     /// use position_book::{Refusal, Table};

@@ -99,7 +99,7 @@ fn line(i: usize) -> String {
 /// A sheet at the limits: 32 events, 256 clauses, each with a key and a value of its own, and names of 256 bytes.
 fn sheet() -> String {
     let long = |letter: &str| letter.repeat(raw::NAME_LIMIT);
-    let mut text = format!("P|{}|{}|0|2|100.25|1\n", long("n"), long("s"));
+    let mut text = format!("P|{}|{}|0|2|100.25|1|1439\n", long("n"), long("s"));
     for e in 0..32 {
         let exit = e >= 16;
         let operate = [["LO", "SO"], ["LE", "SE"]][usize::from(exit)][e % 2];

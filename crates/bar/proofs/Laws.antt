@@ -1,15 +1,17 @@
--- Days and seconds of times from 1970 on are quotients of natural numbers. Assumes nothing.
+-- A day that opens at midnight, and the seconds between instants from 1970 on, are the quotients of document 01. Assumes nothing.
 use Prim.Native.Nat.{ℕ, _+_, _-_, _/_, _≤_}
-use mathlib.Core.Path.{_≡_, refl, ap, ap₂, _∙_}
+use mathlib.Core.Path.{_≡_, sym, ap, ap₂, _∙_}
 use native.Mathlib.Omega.{arith}
-use lib.IntN.{ℤ, pos, _-ℤ_}
+use lib.IntN.{ℤ, pos, negsuc, _-ℤ_}
 use lib.Signed.{quotZ}
-use Rattle.bar.specs.Time.{dayOf, secondsBetween}
-use Rattle.le.proofs.Diff.{of-pos, sub, same, D-pos}
+use Rattle.bar.specs.Time.{floorDiv, dayOf, secondsBetween}
+use Rattle.le.proofs.Diff.{parts, of-pos, sub, same, D-pos}
 
-pub day-pos : (n : ℕ) → dayOf (pos n) ≡ pos (n / 86400000000)
+-- "without it the value is 0": the day is that of document 01
+pub day-midnight : (z : ℤ) → dayOf 0 z ≡ floorDiv z 86_400_000_000
 unfolding dayOf
-day-pos n = refl
+day-midnight (pos n) = ap (λ (m : ℕ). pos (m / 86_400_000_000)) (omega arith)
+day-midnight (negsuc n) = ap (λ (z : ℤ). floorDiv z 86_400_000_000) (sym (parts (negsuc n)))
 
 difference : (a b : ℕ) → a ≤ b → pos b -ℤ pos a ≡ pos (b - a)
 difference a b h = ap₂ _-ℤ_ (of-pos b) (of-pos a) ∙ sub b 0 a 0 ∙ same (b + 0) (0 + a) b a (omega arith) ∙ D-pos b a h

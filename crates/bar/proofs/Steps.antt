@@ -2,17 +2,18 @@
 use Prim.Native.Nat.{ℕ, zero, suc, _+_, _*_, _/_, _^_, _≤_, _<_}
 use native.Mathlib.Nat.{div-le-self, lt-of-le-of-lt, lt-of-lt-of-le}
 use native.Mathlib.Omega.{arith}
-use mathlib.Core.Path.{_≡_, ap, ap₂, _∙_}
+use mathlib.Core.Path.{_≡_, refl, ap, ap₂, _∙_}
 use mathlib.Core.Bool.{true, false, true≢false}
 use lib.IntN.{ℤ, pos, negsuc, negℤ, _+ℤ_, _-ℤ_, _*ℤ_}
 use lib.Signed.{mag, ltZ, quotZ}
 use lib.Dec.{lit<}
+use borrow.Author.Tests.{lt-ltb}
 use mir.Syntax.{w32, w64}
-use mir.Val.{SFits}
+use mir.Val.{SFits, toZ}
 use mir.Facts.{toZ-ofZ, sfits-widen}
 use Rattle.le.proofs.Signs.{back, step, sign, not-below, minus-one}
 use Rattle.bar.specs.Time.{localTime, floorDiv, secondsBetween}
-use Rattle.le.proofs.Diff.{D, up, down, parts, add, sub, mul, bound, bounded}
+use Rattle.le.proofs.Diff.{D, up, down, parts, of-pos, add, sub, mul, bound, bounded}
 
 fit : (z : ℤ) → mag z < 2 ^ 63 → SFits w64 z
 fit z h = record { sfits = h }
@@ -37,6 +38,14 @@ module _ (t o : ℤ) (ht : mag t < 2 ^ 62) (ho : SFits w32 o) where
       let d = bounded t 4611686018427387904 ht in
       fit (t +ℤ o *ℤ pos 1000000) (rw shifted (bound (up t + up o * 1000000) (down t + down o * 1000000) 9223372036854775808 (omega arith) (omega arith)))
 
+-- far from the ends of 64 bits, so that minutes can be added
+pub local-small : (t o : ℤ) → mag t < 2 ^ 61 → SFits w32 o → mag (localTime t o) < 2 ^ 62
+unfolding localTime
+local-small t o ht ho =
+    let b = bounded o 2147483648 (ho .sfits) in
+    let d = bounded t 2305843009213693952 ht in
+    rw (shifted t o (omega arith) ho) (bound (up t + up o * 1000000) (down t + down o * 1000000) 4611686018427387904 (omega arith) (omega arith))
+
 -- what `local` asks and gives
 abbrev pub Local : ℤ → ℤ → Type 0
 Local t o =
@@ -50,6 +59,27 @@ local-steps t o ht ho =
     let b = step (ap (λ (z : ℤ). z *ℤ pos 1000000) (a .1)) (scaled-in t o ht ho) in
     let d = step (ap₂ _+ℤ_ (toZ-ofZ (fit t (omega arith))) (b .1)) (shifted-in t o ht ho) in
     (a .0, b .0, d .0, d .1)
+
+-- ---- minutes added
+
+-- the sum of a time and of minutes, as it is worked out
+abbrev pub later : ℤ → ℕ → ℤ
+later t minutes = back w64 t +ℤ back w64 (toZ w64 minutes *ℤ pos 60000000)
+
+module _ (t : ℤ) (minutes : ℕ) (ht : mag t < 2 ^ 62) (hm : minutes < 65536) where
+  moved-in : SFits w64 (t +ℤ pos (minutes * 60000000))
+  moved-in =
+      let d = bounded t 4611686018427387904 ht in
+      let e = ap₂ _+ℤ_ (parts t) (of-pos (minutes * 60000000)) ∙ add (up t) (down t) (minutes * 60000000) 0 in
+      fit (t +ℤ pos (minutes * 60000000)) (rw e (bound (up t + minutes * 60000000) (down t + 0) 9223372036854775808 (omega arith) (omega arith)))
+
+  -- the product and the sum are defined, and the sum is what it says
+  pub later-is : SFits w64 (toZ w64 minutes *ℤ pos 60000000) × SFits w64 (later t minutes) × (later t minutes ≡ t +ℤ pos (minutes * 60000000))
+  later-is =
+      let e : toZ w64 minutes ≡ pos minutes = rw (lt-ltb minutes (2 ^ 63) (omega arith)) refl in
+      let a = step (ap (λ (z : ℤ). z *ℤ pos 60000000) e) (fit (pos (minutes * 60000000)) (omega arith)) in
+      let sum = ap₂ _+ℤ_ (toZ-ofZ (fit t (omega arith))) (a .1) in
+      (a .0, step sum moved-in .0, sum)
 
 -- ---- a quotient
 

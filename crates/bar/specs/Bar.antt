@@ -45,6 +45,6 @@ barOf id instant offset price = do
 abbrev pub localOf : Time → LocalTime
 localOf t = record { 0 = localTime (t .instant .0) (t .offset) }
 
--- the day of a time: that of its wall clock
-abbrev pub dayAt : Time → ℤ
-dayAt t = dayOf (localOf t .0)
+-- the day of a time: that of its wall clock, where a day opens so many minutes before midnight
+abbrev pub dayAt : ℕ → Time → ℤ
+dayAt evening t = dayOf evening (localOf t .0)

@@ -1,5 +1,5 @@
 -- Times in microseconds. "An instant counts from UTC and a local time counts from the wall clock (instant plus offset)." Assumes nothing.
-use Prim.Native.Nat.{ℕ, _/_}
+use Prim.Native.Nat.{ℕ, _*_, _/_}
 use lib.IntN.{ℤ, pos, negsuc, _+ℤ_, _-ℤ_, _*ℤ_}
 use lib.Signed.{quotZ}
 
@@ -12,9 +12,10 @@ abbrev pub floorDiv : ℤ → ℕ → ℤ
 floorDiv (pos n) d = pos (n / d)
 floorDiv (negsuc n) d = negsuc (n / d)
 
--- "The day is local time divided by 86,400,000,000, rounded down."
-unfoldable pub dayOf : ℤ → ℤ
-dayOf local = floorDiv local 86_400_000_000
+-- "The day is local time divided by 86,400,000,000, rounded down." "minutes, added to local time before the day is taken": those by
+-- which the trading day opens before midnight
+unfoldable pub dayOf : ℕ → ℤ → ℤ
+dayOf evening local = floorDiv (local +ℤ pos (evening * 60_000_000)) 86_400_000_000
 
 -- "whole seconds between instants", the earlier first
 unfoldable pub secondsBetween : ℤ → ℤ → ℤ

@@ -65,11 +65,12 @@ impl LocalTime {
         self.0
     }
 
-    // The day, rounded down before 1970 too.
-    pub fn day(self) -> i64
-        ensures { λ r. ⌜ r ≡ dayOf (self .0) ⌝ }
+    // The day, rounded down before 1970 too, where a day opens so many minutes before midnight.
+    pub fn day(self, evening: u16) -> i64
+        requires { ⌜ mag (self .0) < 2 ^ 62 ⌝ }
+        ensures { λ r. ⌜ r ≡ dayOf evening (self .0) ⌝ }
     {
-        let n = self.0;
+        let n = self.0 + evening as i64 * 60000000;
         if n < 0 {
             -1 - (-1 - n) / 86400000000
         } else {

@@ -65,7 +65,7 @@ operate-gives s = search loud
 
 position-gives : (f : List (List ℕ)) → Gives Any (positionLine f)
 unfolding positionLine unsigned hundredthsOf
-position-gives f = search loud depth 12
+position-gives f = search loud depth 14
 
 event-gives : (exit : Bool) (s : Sheet) (f : List (List ℕ)) → Gives Any (eventLine exit s f)
 unfolding eventLine

@@ -1,3 +1,4 @@
--- The starred cases.
+-- The starred cases and others.
 pub mod Opened
 pub mod Starred
+pub mod TradingDay

@@ -1,4 +1,4 @@
--- The definitions of the plain machine: its state, its steps, a feed, the rows and the run program; the starred cases.
+-- The definitions of the plain machine: its state, its steps, a feed, the rows and the run program; the starred cases and others.
 pub mod State
 pub mod Step
 pub mod Feed
@@ -6,3 +6,4 @@ pub mod Rows
 pub mod Run
 pub mod Cases
 pub mod Further
+pub mod TradingDay

@@ -95,14 +95,14 @@ sameDay (pos m) (negsuc n) = false
 sameDay (negsuc m) (pos n) = false
 sameDay (negsuc m) (negsuc n) = eqb m n
 
--- "no last short open, or its day differs from today's"
-abbrev pub differentDay : Bar → Open → Bool
-differentDay b Open.Never = true
-differentDay b (Open.At t) = not (sameDay (dayAt t) (dayAt (b .time)))
+-- "no last short open, or its day differs from today's"; a day opens so many minutes before midnight: "21:00 as part of the next day"
+abbrev pub differentDay : ℕ → Bar → Open → Bool
+differentDay evening b Open.Never = true
+differentDay evening b (Open.At t) = not (sameDay (dayAt evening t) (dayAt evening (b .time)))
 
--- "(t0, or no last short open, or its day differs from today's)"
+-- "(t0, or no last short open, or its day differs from today's)"; "Only the same-day rule reads it"
 abbrev pub mayClose : Sheet → Bar → Open → Bool
-mayClose s b last = s .t0 || differentDay b last
+mayClose s b last = s .t0 || differentDay (s .evening) b last
 
 -- the stop as a double of basis points
 abbrev pub stopOf : Sheet → Float

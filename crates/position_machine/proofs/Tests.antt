@@ -72,9 +72,9 @@ same-bits a b fa fb = go (eqb (ofZ w64 a) (ofZ w64 b)) (sameDay a b) refl refl
 
 -- ---- the tests
 
-pub days-differ : (b : Bar) {o : Open} {t : Time} (x y : ℤ) → o ≡ Open.At t → SFits w64 x → SFits w64 y → x ≡ dayAt t → y ≡ dayAt (b .time)
-    → not (eqb (ofZ w64 x) (ofZ w64 y)) ≡ differentDay b o
-days-differ b {o} {t} x y e fx fy ex ey = ap not (same-bits x y fx fy ∙ ap₂ sameDay ex ey) ∙ sym (ap (differentDay b) e)
+pub days-differ : (evening : ℕ) (b : Bar) {o : Open} {t : Time} (x y : ℤ) → o ≡ Open.At t → SFits w64 x → SFits w64 y
+    → x ≡ dayAt evening t → y ≡ dayAt evening (b .time) → not (eqb (ofZ w64 x) (ofZ w64 y)) ≡ differentDay evening b o
+days-differ evening b {o} {t} x y e fx fy ex ey = ap not (same-bits x y fx fy ∙ ap₂ sameDay ex ey) ∙ sym (ap (differentDay evening b) e)
 
 pub seconds-pass : (k : Settings) (b : Bar) {o : Open} {t : Time} (z : ℤ) → o ≡ Open.At t → SFits w64 z → k .interval < 2 ^ 32
     → z ≡ secondsBetween (t .instant .0) (b .time .instant .0) → ltZ (toZ w64 (k .interval)) (toZ w64 (ofZ w64 z)) ≡ allowed (ofSettings k) b o

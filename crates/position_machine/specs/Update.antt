@@ -17,7 +17,7 @@ use Rattle.position_machine.specs.declared.Update.{Update}
 
 -- steps 2 to 6 read a sheet's settings alone: a sheet of these, without texts and events
 abbrev pub ofSettings : Settings → Sheet
-ofSettings k = record { name = []; symbol = []; interval = k .interval; timeout = k .timeout; stop = k .stop; t0 = eqb (k .t0) 1; events = [] }
+ofSettings k = record { name = []; symbol = []; interval = k .interval; timeout = k .timeout; stop = k .stop; t0 = eqb (k .t0) 1; evening = k .evening; events = [] }
 
 abbrev pub wroteOf : Wrote → List Record
 wroteOf Nothing = []

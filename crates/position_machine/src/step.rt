@@ -98,23 +98,23 @@ fn last_open(side: Side, h: Head) -> Open
     }
 }
 
-// The day of a time on its wall clock.
-fn local_day(t: Time) -> i64
+// The day of a time on its wall clock, where a day opens so many minutes before midnight.
+fn local_day(t: Time, evening: u16) -> i64
     requires { ⌜ timeOk t ≡ true ⌝ }
-    ensures { λ r. ⌜ r ≡ dayAt t ⌝ }
+    ensures { λ r. ⌜ r ≡ dayAt evening t ⌝ }
 {
     let offset = t.offset;
-    t.instant.local(offset).day()
+    t.instant.local(offset).day(evening)
 }
 
 // Whether there was no last opening, or its day is not the bar's.
-fn is_different_day(bar: Bar, last: Open) -> bool
+fn is_different_day(evening: u16, bar: Bar, last: Open) -> bool
     requires { ⌜ timeOk (bar .time) ≡ true ⌝ ∗ ⌜ openInRange last ≡ true ⌝ }
-    ensures { λ r. ⌜ r ≡ differentDay bar last ⌝ }
+    ensures { λ r. ⌜ r ≡ differentDay evening bar last ⌝ }
 {
     match last {
         Open::Never => true,
-        Open::At(t) => local_day(t) != local_day(bar.time),
+        Open::At(t) => local_day(t, evening) != local_day(bar.time, evening),
     }
 }
 
@@ -137,7 +137,7 @@ fn allowed_by_t0(k: Settings, bar: Bar, last: Open) -> bool
     if k.t0 == 1 {
         return true;
     }
-    is_different_day(bar, last)
+    is_different_day(k.evening, bar, last)
 }
 
 // Whether the position is not on the side yet, and an opening is allowed.

@@ -32,6 +32,7 @@ in-order : after (bytes "O|开多|a\nN|a_b_c_1_2_3_4\nA|a_b_c_5_任意_7_8\nY|�
       timeout = 0;
       stop = 0;
       t0 = false;
+      evening = 0;
       events =
           record {
             exit = false;
@@ -53,21 +54,21 @@ in-order = refl
 kept : List ℕ
 kept = bytes "P|n|s|7|6|5|1\nO|LO|a\nY|a_b_c_1_2_3_4\n"
 
-numbers : Got (sheetAt kept (0 ∷ 3 ∷ 19 ∷ 1 ∷ 0 ∷ 1 ∷ []) (1 ∷ 23 ∷ 1 ∷ 3 ∷ 5 ∷ 7 ∷ 9 ∷ 11 ∷ 4 ∷ []) (record { name = 3; symbol = 5; interval = 7; timeout = 6; stop = 500; t0 = 1; events = 1; clauses = 1 })) ≡ readSheet kept
+numbers : Got (sheetAt kept (0 ∷ 3 ∷ 19 ∷ 1 ∷ 0 ∷ 1 ∷ []) (1 ∷ 23 ∷ 1 ∷ 3 ∷ 5 ∷ 7 ∷ 9 ∷ 11 ∷ 4 ∷ []) (record { name = 3; symbol = 5; interval = 7; timeout = 6; stop = 500; t0 = 1; evening = 0; events = 1; clauses = 1 })) ≡ readSheet kept
 unfolding opened kept
 numbers = refl
 
 -- every limit, with zeros in front; empty names
-at-limits : readSheet (bytes "P|||4102444800|2147483647|0001000000.00|01\n")
-    ≡ Got (record { name = []; symbol = []; interval = 4_102_444_800; timeout = 2_147_483_647; stop = 100_000_000; t0 = true; events = [] })
+at-limits : readSheet (bytes "P|||4102444800|2147483647|0001000000.00|01|0000001439\n")
+    ≡ Got (record { name = []; symbol = []; interval = 4_102_444_800; timeout = 2_147_483_647; stop = 100_000_000; t0 = true; evening = 1439; events = [] })
 unfolding opened
 at-limits = refl
 
 -- ---- the first line
 
--- nothing at all, no LF, another tag, a field too few, a field too many
+-- nothing at all, no LF, another tag, a field too few, two fields too many
 first-2 : (readSheet [] ≡ Refused 2) × (readSheet (bytes "P|n|s|0|0|0|0") ≡ Refused 2) × (readSheet (bytes "O|LO|a\n") ≡ Refused 2)
-    × (readSheet (bytes "P|n|s|0|0|0\n") ≡ Refused 2) × (readSheet (bytes "P|n|s|0|0|0|0|0\n") ≡ Refused 2)
+    × (readSheet (bytes "P|n|s|0|0|0\n") ≡ Refused 2) × (readSheet (bytes "P|n|s|0|0|0|0|0|0\n") ≡ Refused 2)
 unfolding opened
 first-2 = (refl, refl, refl, refl, refl)
 
@@ -78,6 +79,13 @@ first-3 : (readSheet (bytes "P|n|s|4102444801|0|0|0\n") ≡ Refused 3) × (readS
     × (readSheet (bytes "P|n|s|00000000000|0|0|0\n") ≡ Refused 3)
 unfolding opened
 first-3 = (refl, refl, refl, refl, refl, refl, refl)
+
+-- the seventh value: 0 and none are the same; past its limit, none behind a `|`, a sign; judged behind t0
+seventh : (readSheet (bytes "P|n|s|0|0|0|0|0\n") ≡ after []) × ((readSheet (bytes "P|n|s|0|0|0|0|180\n") >>= λ s. Got (s .evening)) ≡ Got 180)
+    × (readSheet (bytes "P|n|s|0|0|0|0|1440\n") ≡ Refused 3) × (readSheet (bytes "P|n|s|0|0|0|0|\n") ≡ Refused 3)
+    × (readSheet (bytes "P|n|s|0|0|0|0|-1\n") ≡ Refused 3) × (readSheet (bytes "P|n|s|0|0|0|2|180\n") ≡ Refused 3)
+unfolding opened
+seventh = (refl, refl, refl, refl, refl, refl)
 
 -- ---- later lines
 

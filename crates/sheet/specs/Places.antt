@@ -11,7 +11,7 @@ use Rattle.text.specs.Answer.{Answer, Refused, Got}
 use Rattle.text.specs.Text.{split, pipe}
 use Rattle.signal.specs.Read.{SignalOk, signalIn}
 use Rattle.signal.specs.declared.SignalAt.{SignalAt}
-use Rattle.sheet.specs.Sheet.{kindOf, Clause, Event, Sheet, eventLimit, clauseLimit, nameLimit, intervalLimit, timeoutLimit, stopLimit, t0Limit}
+use Rattle.sheet.specs.Sheet.{kindOf, Clause, Event, Sheet, eventLimit, clauseLimit, nameLimit, intervalLimit, timeoutLimit, stopLimit, t0Limit, eveningLimit}
 use Rattle.sheet.specs.Read.{readSheet}
 use Rattle.sheet.specs.declared.SheetAt.{SheetAt}
 use Rattle.sheet.specs.declared.SheetRead.{SheetRead}
@@ -82,6 +82,7 @@ sheetAt s es cs a =
       timeout = a .timeout;
       stop = a .stop;
       t0 = eqb (a .t0) 1;
+      evening = a .evening;
       events = rows (eventAt s (clausesAt s cs a)) eventNumbers (a .events) es;
     }
 
@@ -91,6 +92,7 @@ pub record SettingsOk (a : SheetAt) : Type 0 where
   pub timeout : a .timeout ≤ timeoutLimit
   pub stop : a .stop ≤ stopLimit
   pub t0 : a .t0 ≤ t0Limit
+  pub evening : a .evening ≤ eveningLimit
 
 -- places within the text, counts and settings in range, clauses that follow each other, openings before exits
 pub record SheetOk (s es cs : List ℕ) (a : SheetAt) : Type 0 where

@@ -4,38 +4,44 @@ use mathlib.Core.Bool.{Bool, true, false, not, cond, _&&_, _||_}
 use mathlib.Core.List.{List, [], _∷_, _++_}
 use mathlib.Core.Option.{Option, none, some}
 use lib.Dec.{leb, ltb, eqb}
-use lib.ListN.{length, getD}
+use lib.ListN.{length, getD, drop}
 use Rattle.text.specs.Answer.{Answer, Refused, Got, _>>=_, must, given}
 use Rattle.text.specs.Literal.{bytes}
 use Rattle.text.specs.Text.{same, split, eachLine, LF}
-use Rattle.text.specs.Number.{unsigned}
+use Rattle.text.specs.Number.{atMost, digitsTo, unsigned}
 use Rattle.text.specs.Conditions.{anyOf}
 use Rattle.utf8.specs.Alone.{text}
 use Rattle.stop.specs.Stop.{hundredthsOf}
 use Rattle.operate.specs.Operate.{operateOf}
 use Rattle.signal.specs.Signal.{signalOf}
-use Rattle.sheet.specs.Sheet.{Kind, All, Any, Not, Clause, Event, Sheet, clauseCount, eventLimit, clauseLimit, nameLimit, intervalLimit, timeoutLimit, stopLimit, t0Limit}
+use Rattle.sheet.specs.Sheet.{Kind, All, Any, Not, Clause, Event, Sheet, clauseCount, eventLimit, clauseLimit, nameLimit, intervalLimit, timeoutLimit, stopLimit, t0Limit, eveningLimit}
 
 -- "at most .. 256 bytes a name or symbol" (7)
 abbrev pub name : List ℕ → Answer (List ℕ)
 name s = must 7 (leb (length s) nameLimit) >>= λ _. Got s
 
--- "first `P|name|symbol|interval|timeout|stop|t0`"; "The stop field may now have one or two decimals after a point"
+-- "A P line may carry a seventh value, 0 to 1,439 minutes ..; without it the value is 0": of the fields behind t0
+abbrev pub minutesIn : List (List ℕ) → Option ℕ
+minutesIn [] = some 0
+minutesIn (field ∷ _) = atMost eveningLimit (digitsTo 10 field)
+
+-- "first `P|name|symbol|interval|timeout|stop|t0`", or with a seventh value; "The stop field may now have one or two decimals after a point"
 unfoldable pub positionLine : List (List ℕ) → Answer Sheet
 positionLine f = do
-  _ ← must 2 (same (getD f 0 []) (bytes "P") && eqb (length f) 7)
+  _ ← must 2 (same (getD f 0 []) (bytes "P") && (eqb (length f) 7 || eqb (length f) 8))
   n ← name (getD f 1 [])
   s ← name (getD f 2 [])
   interval ← unsigned intervalLimit (getD f 3 [])
   timeout ← unsigned timeoutLimit (getD f 4 [])
   stop ← hundredthsOf stopLimit (getD f 5 [])
   t0 ← unsigned t0Limit (getD f 6 [])
-  Got (record { name = n; symbol = s; interval = interval; timeout = timeout; stop = stop; t0 = eqb t0 1; events = [] })
+  evening ← given 3 (minutesIn (drop 7 f))
+  Got (record { name = n; symbol = s; interval = interval; timeout = timeout; stop = stop; t0 = eqb t0 1; evening = evening; events = [] })
 
 -- the sheet with other events
 abbrev pub withEvents : Sheet → List Event → Sheet
 withEvents s es =
-    record { name = s .name; symbol = s .symbol; interval = s .interval; timeout = s .timeout; stop = s .stop; t0 = s .t0; events = es }
+    record { name = s .name; symbol = s .symbol; interval = s .interval; timeout = s .timeout; stop = s .stop; t0 = s .t0; evening = s .evening; events = es }
 
 abbrev pub anyExit : List Event → Bool
 anyExit es = anyOf (λ e. e .exit) es

@@ -27,7 +27,8 @@ pub record Event : Type 0 where
   pub name : List ℕ
   pub clauses : List Clause
 
--- "`P|name|symbol|interval|timeout|stop|t0`": interval in seconds, timeout in bars, stop in hundredths of a basis point
+-- "`P|name|symbol|interval|timeout|stop|t0`": interval in seconds, timeout in bars, stop in hundredths of a basis point; "a seventh value ..
+-- minutes", those by which the trading day opens before midnight
 pub record Sheet : Type 0 where
   pub name : List ℕ
   pub symbol : List ℕ
@@ -35,6 +36,7 @@ pub record Sheet : Type 0 where
   pub timeout : ℕ
   pub stop : ℕ
   pub t0 : Bool
+  pub evening : ℕ
   pub events : List Event
 
 -- how many clauses the events have together
@@ -67,3 +69,7 @@ stopLimit = 100_000_000
 
 abbrev pub t0Limit : ℕ
 t0Limit = 1
+
+-- "a seventh value, 0 to 1,439 minutes"
+abbrev pub eveningLimit : ℕ
+eveningLimit = 1_439

@@ -10,7 +10,7 @@ pub const CLAUSE_LIMIT: usize = 256;
 // The most bytes of a name or a symbol.
 pub const NAME_LIMIT: usize = 256;
 
-// The highest interval in seconds, timeout in bars, stop in hundredths of a basis point, and t0.
+// The highest interval in seconds, timeout in bars, stop in hundredths of a basis point, t0, and minutes before midnight.
 pub const INTERVAL_LIMIT: u64 = 4_102_444_800;
 
 pub const TIMEOUT_LIMIT: u64 = 2_147_483_647;
@@ -18,6 +18,8 @@ pub const TIMEOUT_LIMIT: u64 = 2_147_483_647;
 pub const STOP_LIMIT: u64 = 100_000_000;
 
 pub const T0_LIMIT: u64 = 1;
+
+pub const EVENING_LIMIT: u64 = 1_439;
 
 // How many numbers are kept of an event: 0 opening or 1 exit, the operate, where the name starts, its length, the first clause, how many clauses.
 pub const EVENT_NUMBERS: usize = 6;
@@ -33,6 +35,7 @@ pub struct SheetAt {
     pub timeout: u64,
     pub stop: u64,
     pub t0: u64,
+    pub evening: u64,
     pub events: usize,
     pub clauses: usize,
 }

@@ -1,4 +1,5 @@
 // A position sheet's first line: its name, its symbol and the settings.
+use sheet::EVENING_LIMIT;
 use sheet::INTERVAL_LIMIT;
 use sheet::NAME_LIMIT;
 use sheet::STOP_LIMIT;
@@ -13,14 +14,15 @@ use text::find;
 use text_number::Number;
 use text_number::decimal;
 ghost use mathlib.Core.Path.{_≡_};
-ghost use Prim.Native.Nat.{_+_};
+ghost use Prim.Native.Nat.{_+_, _≤_};
 ghost use lib.ListN.{length};
 ghost use lib.Seq.{slice};
 ghost use Rattle.text.specs.Number.{atMost, digitsTo};
 ghost use Rattle.text.specs.Read.{Part};
 ghost use Rattle.text_number.specs.Read.{numberOf};
+ghost use Rattle.sheet.specs.Read.{minutesIn};
 ghost use Rattle.sheet.specs.Places.{fieldsOf};
-ghost use Rattle.sheet_first.specs.First.{Names, SettingsAs, PositionAs};
+ghost use Rattle.sheet_first.specs.First.{Names, behind, SettingsAs, PositionAs};
 
 // The number in the field from..to, where it is not above hi.
 fn unsigned(s: &[u8], from: usize, to: usize, hi: u64) -> Number
@@ -36,10 +38,21 @@ fn unsigned(s: &[u8], from: usize, to: usize, hi: u64) -> Number
     Number::Is(v)
 }
 
-// The four numbers of a first line, whose name and symbol end at the places.
+// The minutes in the field behind t0's, which ends at `at`; 0 where there is none.
+fn evening_minutes(s: &[u8], at: usize, to: usize) -> Number
+    requires { ⌜ Part (now s) at to ⌝ }
+    ensures { λ r. ⌜ numberOf r ≡ minutesIn (behind (now (s .entry)) at to) ⌝ }
+{
+    if at < to {
+        return unsigned(s, at + 1, to, EVENING_LIMIT);
+    }
+    Number::Is(0)
+}
+
+// The numbers of a first line, whose name and symbol end at the places: four, or five.
 fn settings(s: &[u8], name: usize, symbol: usize, to: usize) -> SheetRead
     requires { ⌜ Names (now s) name symbol to ⌝ }
-    requires { ⌜ length (fieldsOf (now s) (symbol + 1) to) ≡ 4 ⌝ }
+    requires { ⌜ 4 ≤ length (fieldsOf (now s) (symbol + 1) to) ⌝ ∗ ⌜ length (fieldsOf (now s) (symbol + 1) to) ≤ 5 ⌝ }
     ensures { λ r. ⌜ SettingsAs (now (s .entry)) name symbol to r ⌝ }
 {
     let a = find(s, symbol + 1, to, PIPE);
@@ -54,7 +67,11 @@ fn settings(s: &[u8], name: usize, symbol: usize, to: usize) -> SheetRead
     let Number::Is(stop) = read_stop(s, b + 1, c, STOP_LIMIT) else {
         return SheetRead::BadNumber;
     };
-    let Number::Is(t0) = unsigned(s, c + 1, to, T0_LIMIT) else {
+    let d = find(s, c + 1, to, PIPE);
+    let Number::Is(t0) = unsigned(s, c + 1, d, T0_LIMIT) else {
+        return SheetRead::BadNumber;
+    };
+    let Number::Is(evening) = evening_minutes(s, d, to) else {
         return SheetRead::BadNumber;
     };
     SheetRead::Is(SheetAt {
@@ -64,6 +81,7 @@ fn settings(s: &[u8], name: usize, symbol: usize, to: usize) -> SheetRead
         timeout: timeout,
         stop: stop,
         t0: t0,
+        evening: evening,
         events: 0,
         clauses: 0,
     })
@@ -74,7 +92,11 @@ pub fn position_line(s: &[u8], to: usize) -> SheetRead
     requires { ⌜ Part (now s) 0 to ⌝ }
     ensures { λ r. ⌜ PositionAs (now (s .entry)) to r ⌝ }
 {
-    if count_parts(s, 0, to, PIPE) != 7 {
+    let fields = count_parts(s, 0, to, PIPE);
+    if fields < 7 {
+        return SheetRead::Malformed;
+    }
+    if 8 < fields {
         return SheetRead::Malformed;
     }
     if s[0] != b'P' {

@@ -84,7 +84,7 @@ before-same es fs (suc n) h = omega (arith, before-same es fs n (λ i k. h i (om
 
 -- other counts, the same settings
 pub settings-kept : {a : SheetAt} → SettingsOk a → (e c : ℕ) → SettingsOk (counted a e c)
-settings-kept k e c = record { interval = k .interval; timeout = k .timeout; stop = k .stop; t0 = k .t0 }
+settings-kept k e c = record { interval = k .interval; timeout = k .timeout; stop = k .stop; t0 = k .t0; evening = k .evening }
 
 module _ {s es cs : List ℕ} {a : SheetAt} (ok : SheetOk s es cs a) where
   event : ℕ → Event

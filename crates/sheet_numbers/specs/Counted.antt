@@ -10,7 +10,7 @@ use Rattle.sheet.specs.declared.SheetAt.{SheetAt}
 -- the same sheet with e events and c clauses
 abbrev pub counted : SheetAt → ℕ → ℕ → SheetAt
 counted a e c =
-    record { name = a .name; symbol = a .symbol; interval = a .interval; timeout = a .timeout; stop = a .stop; t0 = a .t0; events = e; clauses = c }
+    record { name = a .name; symbol = a .symbol; interval = a .interval; timeout = a .timeout; stop = a .stop; t0 = a .t0; evening = a .evening; events = e; clauses = c }
 
 -- whether the last of n events is an exit
 abbrev pub lastExit : List ℕ → ℕ → Bool

@@ -20,7 +20,7 @@ unfoldable pub soy : List ℕ
 soy =
     -- the layout number
     (2 ∷ 0 ∷ 0 ∷ 255 ∷ [])
-    -- interval, timeout, stop, t0
+    -- interval, timeout, stop, t0, the evening's minutes
     ++ (0 ∷ 0 ∷ 0 ∷ 0 ∷ 5 ∷ 0 ∷ 0 ∷ 0 ∷ 16 ∷ 39 ∷ 0 ∷ 0 ∷ 0 ∷ 0 ∷ 0 ∷ 0 ∷ [])
     -- how many events, clauses, keys, values; the lengths of name and symbol
     ++ (2 ∷ 0 ∷ 0 ∷ 0 ∷ 2 ∷ 0 ∷ 0 ∷ 0 ∷ 1 ∷ 0 ∷ 0 ∷ 0 ∷ 2 ∷ 0 ∷ 0 ∷ 0 ∷ 3 ∷ 0 ∷ 0 ∷ 0 ∷ 2 ∷ 0 ∷ 0 ∷ 0 ∷ [])
@@ -48,6 +48,7 @@ meant =
       timeout = 5;
       stop = 10_000;
       t0 = false;
+      evening = 0;
       events =
           record {
             exit = false;
@@ -83,11 +84,17 @@ tail-free = refl
 abbrev changed : ℕ → List ℕ → Answer Sheet
 changed at new = readTable (patch soy at new)
 
+-- t0 and the evening stand side by side
+settings : ((changed 18 (put16 1439) >>= λ s. Got (s .evening)) ≡ Got 1439) × ((changed 18 (put16 1439) >>= λ s. Got (s .t0)) ≡ Got false)
+    × ((changed 16 (put16 1) >>= λ s. Got (s .evening)) ≡ Got 0) × ((changed 16 (put16 1) >>= λ s. Got (s .t0)) ≡ Got true)
+unfolding opened soy
+settings = (refl, refl, refl, refl)
+
 -- another layout number; settings past their limits; counts and places that do not fit; a byte too few
 header : (changed 0 (put32 0xff00_0003) ≡ Refused 9) × (changed 4 (put32 4102444801) ≡ Refused 9) × (changed 8 (put32 2147483648) ≡ Refused 9) × (changed 12 (put32 100_000_001) ≡ Refused 9)
-    × (changed 16 (put32 2) ≡ Refused 9) × (changed 20 (put32 1) ≡ Refused 9) × (changed 64 (put32 158) ≡ Refused 9) × (readTable (drop 1 soy) ≡ Refused 9)
+    × (changed 16 (put16 2) ≡ Refused 9) × (changed 18 (put16 1440) ≡ Refused 9) × (changed 20 (put32 1) ≡ Refused 9) × (changed 64 (put32 158) ≡ Refused 9) × (readTable (drop 1 soy) ≡ Refused 9)
 unfolding opened soy
-header = (refl, refl, refl, refl, refl, refl, refl, refl)
+header = (refl, refl, refl, refl, refl, refl, refl, refl, refl)
 
 -- an event's kind, operate, name, clauses
 events : (changed 80 (put16 2) ≡ Refused 9) × (changed 82 (put16 7) ≡ Refused 9) × (changed 86 (put16 3) ≡ Refused 9) × (changed 102 (put16 2) ≡ Refused 9)

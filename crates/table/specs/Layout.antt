@@ -39,7 +39,7 @@ unfoldable pub layoutIn : List ℕ → ℕ
 layoutIn t = u32 t 0
 
 unfoldable pub settingsIn : List ℕ → Settings
-settingsIn t = record { interval = u32 t 4; timeout = u32 t 8; stop = u32 t 12; t0 = u32 t 16 }
+settingsIn t = record { interval = u32 t 4; timeout = u32 t 8; stop = u32 t 12; t0 = u16 t 16; evening = u16 t 18 }
 
 unfoldable pub countsIn : List ℕ → Counts
 countsIn t = record { events = u32 t 20; clauses = u32 t 24; keys = u32 t 28; values = u32 t 32; name = u32 t 36; symbol = u32 t 40 }

@@ -7,7 +7,7 @@ use lib.ListN.{length, getD, take, drop}
 use Rattle.text.specs.Answer.{Answer, Got, _>>=_, must}
 use Rattle.text.specs.Conditions.{allOf, every}
 use Rattle.signal.specs.Signal.{wildcard, scoreLimit}
-use Rattle.sheet.specs.Sheet.{kindOf, Clause, Event, Sheet, eventLimit, clauseLimit, nameLimit, intervalLimit, timeoutLimit, stopLimit, t0Limit}
+use Rattle.sheet.specs.Sheet.{kindOf, Clause, Event, Sheet, eventLimit, clauseLimit, nameLimit, intervalLimit, timeoutLimit, stopLimit, t0Limit, eveningLimit}
 use Rattle.table_words.specs.Words.{clean, wordOk, keyParts, valueParts, distinct, ordered}
 use Rattle.table.specs.Layout.{tableLength, headLength, eventLength, clauseLength, wordLength, layoutNumber, layoutIn, settingsIn, countsIn, placesIn, Parts, partsIn, eventText, wordText}
 use Rattle.table.specs.declared.Settings.{Settings}
@@ -21,7 +21,14 @@ use Rattle.table.specs.declared.WordRow.{WordRow}
 
 -- "counts, settings .. are in range"
 unfoldable pub settingsOk : Settings → Bool
-settingsOk s = allOf (leb (s .interval) intervalLimit ∷ leb (s .timeout) timeoutLimit ∷ leb (s .stop) stopLimit ∷ leb (s .t0) t0Limit ∷ [])
+settingsOk s =
+    allOf
+    (leb (s .interval) intervalLimit
+    ∷ leb (s .timeout) timeoutLimit
+    ∷ leb (s .stop) stopLimit
+    ∷ leb (s .t0) t0Limit
+    ∷ leb (s .evening) eveningLimit
+    ∷ [])
 
 -- a clause has one key and three values
 unfoldable pub countsOk : Counts → Bool
@@ -173,6 +180,7 @@ sheetOf p =
       timeout = s .timeout;
       stop = s .stop;
       t0 = eqb (s .t0) 1;
+      evening = s .evening;
       events = map (eventOf (p .names) cs) (p .events);
     }
 

@@ -30,7 +30,8 @@ pub struct Settings {
     pub interval: u32,
     pub timeout: u32,
     pub stop: u32,
-    pub t0: u32,
+    pub t0: u16,
+    pub evening: u16,
 }
 
 // How many rows of each kind there are, and the lengths of the position's name and symbol.
@@ -101,7 +102,8 @@ pub fn read_settings(t: &[u8]) -> Settings
         interval: get_u32(t, 4),
         timeout: get_u32(t, 8),
         stop: get_u32(t, 12),
-        t0: get_u32(t, 16),
+        t0: get_u16(t, 16),
+        evening: get_u16(t, 18),
     }
 }
 

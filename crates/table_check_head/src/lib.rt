@@ -1,5 +1,6 @@
 // Whether the header of a table is right: its settings, its counts and its places.
 use sheet::CLAUSE_LIMIT;
+use sheet::EVENING_LIMIT;
 use sheet::EVENT_LIMIT;
 use sheet::INTERVAL_LIMIT;
 use sheet::NAME_LIMIT;
@@ -38,7 +39,10 @@ fn settings_ok(s: Settings) -> bool
     if STOP_LIMIT < s.stop as u64 {
         return false;
     }
-    s.t0 as u64 <= T0_LIMIT
+    if T0_LIMIT < s.t0 as u64 {
+        return false;
+    }
+    s.evening as u64 <= EVENING_LIMIT
 }
 
 // Whether the counts are in range.

@@ -42,7 +42,7 @@ down = record { at = 2; len = 4; rank = 0; order = 0 }
 unfoldable parts : Parts
 parts =
     record {
-      settings = record { interval = 0; timeout = 5; stop = 10_000; t0 = 0 };
+      settings = record { interval = 0; timeout = 5; stop = 10_000; t0 = 0; evening = 0 };
       events = go ∷ out ∷ [];
       clauses = is-up ∷ is-down ∷ [];
       keys = key ∷ [];

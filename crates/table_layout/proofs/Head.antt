@@ -33,7 +33,8 @@ module _ (s : Settings) (c : Counts) (q : Places) (rest : List ℕ) where
         interval = leNat-leBytes 4 (s .interval) (f .interval) i;
         timeout = leNat-leBytes 4 (s .timeout) (f .timeout) i;
         stop = leNat-leBytes 4 (s .stop) (f .stop) i;
-        t0 = leNat-leBytes 4 (s .t0) (f .t0) i;
+        t0 = leNat-leBytes 2 (s .t0) (f .t0) i;
+        evening = leNat-leBytes 2 (s .evening) (f .evening) i;
       }
 
   pub counts-back : CountsFit c → countsIn headed ≡ c

@@ -7,7 +7,7 @@ use lib.ListN.{length, drop, replicate, length-append, length-replicate}
 use borrow.Author.Tests.{le-leb, leb-true, eq-eqb}
 use Rattle.text.specs.Answer.{Got}
 use Rattle.text.proofs.Conditions.{none-left, _also_, sure, fact}
-use Rattle.sheet.specs.Sheet.{eventLimit, clauseLimit, nameLimit, intervalLimit, timeoutLimit, stopLimit, t0Limit}
+use Rattle.sheet.specs.Sheet.{eventLimit, clauseLimit, nameLimit, intervalLimit, timeoutLimit, stopLimit, t0Limit, eveningLimit}
 use Rattle.table.specs.Layout.{tableLength, eventLength, clauseLength, wordLength, layoutNumber, layoutIn, settingsIn, countsIn, placesIn, eventIn, clauseIn, wordIn, Parts, partsIn}
 use Rattle.table.specs.Table.{settingsOk, countsOk, placesOk, headOk, partsOk, isTable, sheetOf, readTable}
 use Rattle.table.specs.Compile.{Means}
@@ -26,7 +26,8 @@ settings-fit s e =
     let timeout = leb-true (s .timeout) timeoutLimit (fact _ e 1) in
     let stop = leb-true (s .stop) stopLimit (fact _ e 2) in
     let t0 = leb-true (s .t0) t0Limit (fact _ e 3) in
-    record { interval = omega arith; timeout = omega arith; stop = omega arith; t0 = omega arith }
+    let evening = leb-true (s .evening) eveningLimit (fact _ e 4) in
+    record { interval = omega arith; timeout = omega arith; stop = omega arith; t0 = omega arith; evening = omega arith }
 
 module _ {p : Parts} (z : Sized p) where
   -- 80 + 32 events, 256 clauses, 256 keys, 768 values and 16,384 bytes of texts

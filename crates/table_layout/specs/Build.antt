@@ -30,7 +30,7 @@ rowBytes f xs = flatMap f xs
 -- ---- the header
 
 unfoldable pub settingsBytes : Settings → List ℕ
-settingsBytes s = put32 (s .interval) ++ put32 (s .timeout) ++ put32 (s .stop) ++ put32 (s .t0)
+settingsBytes s = put32 (s .interval) ++ put32 (s .timeout) ++ put32 (s .stop) ++ put16 (s .t0) ++ put16 (s .evening)
 
 unfoldable pub countsBytes : Counts → List ℕ
 countsBytes c = put32 (c .events) ++ put32 (c .clauses) ++ put32 (c .keys) ++ put32 (c .values) ++ put32 (c .name) ++ put32 (c .symbol)

@@ -15,13 +15,14 @@ use Rattle.table.specs.declared.EventRow.{EventRow}
 use Rattle.table.specs.declared.ClauseRow.{ClauseRow}
 use Rattle.table.specs.declared.WordRow.{WordRow}
 
--- ---- the header: 32 bits
+-- ---- the header: 32 bits, and twice 16
 
 pub record SettingsFit (s : Settings) : Type 0 where
   pub interval : s .interval < 2 ^ 32
   pub timeout : s .timeout < 2 ^ 32
   pub stop : s .stop < 2 ^ 32
-  pub t0 : s .t0 < 2 ^ 32
+  pub t0 : s .t0 < 65536
+  pub evening : s .evening < 65536
 
 pub record CountsFit (c : Counts) : Type 0 where
   pub events : c .events < 2 ^ 32

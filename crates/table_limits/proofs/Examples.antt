@@ -35,10 +35,10 @@ clauses = (refl, refl, refl, refl, refl, refl, refl, refl)
 
 -- ---- sheets that no text says
 
-abbrev sheet : List ℕ → ℕ → Sheet
-sheet name stop = record { name = name; symbol = []; interval = 0; timeout = 0; stop = stop; t0 = false; events = [] }
+abbrev sheet : List ℕ → ℕ → ℕ → Sheet
+sheet name stop evening = record { name = name; symbol = []; interval = 0; timeout = 0; stop = stop; t0 = false; evening = evening; events = [] }
 
-sheets : (fineSheet (sheet (replicate 256 97) 100_000_000) ≡ true) × (fineSheet (sheet (replicate 257 97) 0) ≡ false)
-    × (fineSheet (sheet (bytes "a\nb") 0) ≡ false) × (fineSheet (sheet [] 100_000_001) ≡ false)
+sheets : (fineSheet (sheet (replicate 256 97) 100_000_000 1439) ≡ true) × (fineSheet (sheet (replicate 257 97) 0 0) ≡ false)
+    × (fineSheet (sheet (bytes "a\nb") 0 0) ≡ false) × (fineSheet (sheet [] 100_000_001 0) ≡ false) × (fineSheet (sheet [] 0 1440) ≡ false)
 unfolding opened
-sheets = (refl, refl, refl, refl)
+sheets = (refl, refl, refl, refl, refl)

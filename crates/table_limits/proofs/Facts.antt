@@ -8,7 +8,7 @@ use Rattle.text.specs.Conditions.{every}
 use Rattle.text.proofs.Conditions.{_also_, none-left, sure, fact}
 use Rattle.utf8.specs.Alone.{textLimit}
 use Rattle.signal.specs.Signal.{scoreLimit}
-use Rattle.sheet.specs.Sheet.{Clause, Event, Sheet, clauseCount, eventLimit, clauseLimit, nameLimit, intervalLimit, timeoutLimit, stopLimit}
+use Rattle.sheet.specs.Sheet.{Clause, Event, Sheet, clauseCount, eventLimit, clauseLimit, nameLimit, intervalLimit, timeoutLimit, stopLimit, eveningLimit}
 use Rattle.table_words.specs.Words.{clean, wordOk, keyParts}
 use Rattle.table_limits.specs.Fine.{valueOk, operateLimit, fineClause, fineEvent, weight, fineSheet}
 
@@ -72,6 +72,7 @@ pub record SheetFacts (s : Sheet) : Type 0 where
   pub interval : s .interval ≤ intervalLimit
   pub timeout : s .timeout ≤ timeoutLimit
   pub stop : s .stop ≤ stopLimit
+  pub evening : s .evening ≤ eveningLimit
   pub few : length (s .events) ≤ eventLimit
   pub clauses : clauseCount (s .events) ≤ clauseLimit
   pub events : every fineEvent (s .events) ≡ true
@@ -90,10 +91,11 @@ module _ (s : Sheet) where
         interval = leb-true (s .interval) intervalLimit (is 4);
         timeout = leb-true (s .timeout) timeoutLimit (is 5);
         stop = leb-true (s .stop) stopLimit (is 6);
-        few = leb-true (length (s .events)) eventLimit (is 7);
-        clauses = leb-true (clauseCount (s .events)) clauseLimit (is 8);
-        events = is 9;
-        light = leb-true (weight s) textLimit (is 10);
+        evening = leb-true (s .evening) eveningLimit (is 7);
+        few = leb-true (length (s .events)) eventLimit (is 8);
+        clauses = leb-true (clauseCount (s .events)) clauseLimit (is 9);
+        events = is 10;
+        light = leb-true (weight s) textLimit (is 11);
       }
 
   pub sheet-sure : SheetFacts s → fineSheet s ≡ true
@@ -107,6 +109,7 @@ module _ (s : Sheet) where
       also le-leb (s .interval) intervalLimit (f .interval)
       also le-leb (s .timeout) timeoutLimit (f .timeout)
       also le-leb (s .stop) stopLimit (f .stop)
+      also le-leb (s .evening) eveningLimit (f .evening)
       also le-leb (length (s .events)) eventLimit (f .few)
       also le-leb (clauseCount (s .events)) clauseLimit (f .clauses)
       also f .events

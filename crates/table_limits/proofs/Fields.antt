@@ -20,8 +20,8 @@ use Rattle.operate.specs.Operate.{latin, chinese, codeFrom, operateOf}
 use Rattle.signal.proofs.Keys.{key-length}
 use Rattle.signal.specs.Signal.{Signal, keyOf, scoreLimit, score, signalOf}
 use Rattle.signal.proofs.Says.{score-low}
-use Rattle.sheet.specs.Sheet.{Kind, Clause, nameLimit}
-use Rattle.sheet.specs.Read.{name}
+use Rattle.sheet.specs.Sheet.{Kind, Clause, nameLimit, eveningLimit}
+use Rattle.sheet.specs.Read.{name, minutesIn}
 use Rattle.table_words.specs.Words.{clean}
 use Rattle.table_limits.specs.Fine.{valueOk, operateLimit, fineClause, clauseWeight}
 use Rattle.text.proofs.Every.{every-three}
@@ -69,6 +69,10 @@ unsigned-gives hi s = limit-gives hi (digitsTo 10 s)
 pub stop-gives : (hi : ℕ) (s : List ℕ) → Gives (λ n. n ≤ hi) (hundredthsOf hi s)
 unfolding hundredthsOf stopIn
 stop-gives hi s = limit-gives hi (hundredthsIn (split point s))
+
+pub minutes-give : (fs : List (List ℕ)) → Gives (λ n. n ≤ eveningLimit) (given 3 (minutesIn fs))
+minutes-give [] = gives {x = 0} (omega arith)
+minutes-give (field ∷ _) = limit-gives eveningLimit (digitsTo 10 field)
 
 -- ---- operates
 

@@ -6,14 +6,14 @@ use mathlib.Core.List.{List, [], _∷_, _++_}
 use mathlib.Core.Path.{_≡_, _∙_, refl, ap}
 use borrow.Author.Tests.{ltb-true}
 use lib.Dec.{ltb, eqb}
-use lib.ListN.{length, getD, length-append}
+use lib.ListN.{length, getD, drop, length-append}
 use Rattle.text.specs.Conditions.{every}
 use Rattle.text.specs.Literal.{bytes}
 use Rattle.text.specs.Text.{same, split, pipe}
 use Rattle.text.proofs.Refusals.{Gives, refuses, gives, then-with}
 use Rattle.utf8.specs.Alone.{textLimit}
 use Rattle.signal.specs.Signal.{Signal}
-use Rattle.sheet.specs.Sheet.{Kind, All, Any, Not, Clause, Event, Sheet, clauseCount, eventLimit, clauseLimit, intervalLimit, timeoutLimit, stopLimit, t0Limit}
+use Rattle.sheet.specs.Sheet.{Kind, All, Any, Not, Clause, Event, Sheet, clauseCount, eventLimit, clauseLimit, intervalLimit, timeoutLimit, stopLimit, t0Limit, eveningLimit}
 use Rattle.sheet.specs.Read.{name, positionLine, withEvents, anyExit, eventLine, clauseLine, addClause, laterLine}
 use Rattle.table_words.specs.Words.{clean}
 use Rattle.table_limits.specs.Fine.{operateLimit, fineEvent, eventsWeight, clausesWeight, weight}
@@ -22,7 +22,7 @@ use Rattle.text.proofs.Joined.{total-next, split-length}
 use Rattle.table_limits.proofs.Lines.{Line, field-at}
 use Rattle.table_limits.proofs.Given.{must-test, either-gives}
 use Rattle.table_limits.proofs.Facts.{event-sure, SheetFacts}
-use Rattle.table_limits.proofs.Fields.{Name, name-gives, unsigned-gives, stop-gives, operate-gives, Says, signal-gives}
+use Rattle.table_limits.proofs.Fields.{Name, name-gives, unsigned-gives, stop-gives, minutes-give, operate-gives, Says, signal-gives}
 use Rattle.table_limits.proofs.Events.{count-append, weight-append, add-length, add-count, add-weight, add-fine}
 
 -- a fine sheet that leaves n bytes of a text
@@ -46,6 +46,7 @@ with-events k m es few short each light =
             interval = f .interval;
             timeout = f .timeout;
             stop = f .stop;
+            evening = f .evening;
             few = few;
             clauses = short;
             events = each;
@@ -69,11 +70,11 @@ module _ (n : ℕ) (p : List ℕ) (l : Line p) where
 
   -- the first line
   module _ (h : length p + n ≤ textLimit) where
-    begun : (name symbol : List ℕ) (interval timeout stop : ℕ) (t0 : Bool) → Name (getD fields 1 []) name → Name (getD fields 2 []) symbol
-        → interval ≤ intervalLimit → timeout ≤ timeoutLimit → stop ≤ stopLimit
-        → Fine n (record { name = name; symbol = symbol; interval = interval; timeout = timeout; stop = stop; t0 = t0; events = [] })
+    begun : (name symbol : List ℕ) (interval timeout stop : ℕ) (t0 : Bool) (evening : ℕ) → Name (getD fields 1 []) name → Name (getD fields 2 []) symbol
+        → interval ≤ intervalLimit → timeout ≤ timeoutLimit → stop ≤ stopLimit → evening ≤ eveningLimit
+        → Fine n (record { name = name; symbol = symbol; interval = interval; timeout = timeout; stop = stop; t0 = t0; evening = evening; events = [] })
     unfolding weight eventsWeight clauseCount every
-    begun name symbol interval timeout stop t0 a b c d e =
+    begun name symbol interval timeout stop t0 evening a b c d e f =
         let size : length name + length symbol + 0 + n ≤ textLimit = omega (arith, ap length (a .is), ap length (b .is), two-fields) in
         record {
           facts =
@@ -85,6 +86,7 @@ module _ (n : ℕ) (p : List ℕ) (l : Line p) where
                 interval = c;
                 timeout = d;
                 stop = e;
+                evening = f;
                 few = omega arith;
                 clauses = omega arith;
                 events = refl;
@@ -96,14 +98,15 @@ module _ (n : ℕ) (p : List ℕ) (l : Line p) where
     pub position-gives : Gives (Fine n) (positionLine fields)
     unfolding positionLine
     position-gives =
-        then-with (must-test 2 (same (getD fields 0 []) (bytes "P") && eqb (length fields) 7) tt)
+        then-with (must-test 2 (same (getD fields 0 []) (bytes "P") && (eqb (length fields) 7 || eqb (length fields) 8)) tt)
         (λ _ _. then-with (name-gives (getD fields 1 []))
         (λ name a. then-with (name-gives (getD fields 2 []))
         (λ symbol b. then-with (unsigned-gives intervalLimit (getD fields 3 []))
         (λ interval c. then-with (unsigned-gives timeoutLimit (getD fields 4 []))
         (λ timeout d. then-with (stop-gives stopLimit (getD fields 5 []))
         (λ stop e. then-with (unsigned-gives t0Limit (getD fields 6 []))
-        (λ t0 _. gives (begun name symbol interval timeout stop (eqb t0 1) a b c d e))))))))
+        (λ t0 _. then-with (minutes-give (drop 7 fields))
+        (λ evening f. gives (begun name symbol interval timeout stop (eqb t0 1) evening a b c d e f)))))))))
 
   -- a later line
   module _ (s : Sheet) (k : Fine (length p + n) s) where

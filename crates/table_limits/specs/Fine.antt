@@ -7,7 +7,7 @@ use lib.ListN.{length}
 use Rattle.text.specs.Conditions.{allOf, every}
 use Rattle.utf8.specs.Alone.{textLimit}
 use Rattle.signal.specs.Signal.{scoreLimit}
-use Rattle.sheet.specs.Sheet.{Clause, Event, Sheet, clauseCount, eventLimit, clauseLimit, nameLimit, intervalLimit, timeoutLimit, stopLimit}
+use Rattle.sheet.specs.Sheet.{Clause, Event, Sheet, clauseCount, eventLimit, clauseLimit, nameLimit, intervalLimit, timeoutLimit, stopLimit, eveningLimit}
 use Rattle.table_words.specs.Words.{clean, isWild, wordOk, keyParts, valueParts}
 
 -- ---- clauses and events
@@ -57,8 +57,8 @@ namesWeight (e ∷ es) = length (e .name) + namesWeight es
 
 -- ---- sheets
 
--- "Interval is 0..4,102,444,800 seconds, timeout 0..2,147,483,647 bars, stop 0..1,000,000 basis points"; "At most 32 events, 256 clauses and
--- 256 bytes a name or symbol."; all texts fit in one
+-- "Interval is 0..4,102,444,800 seconds, timeout 0..2,147,483,647 bars, stop 0..1,000,000 basis points"; "0 to 1,439 minutes"; "At most
+-- 32 events, 256 clauses and 256 bytes a name or symbol."; all texts fit in one
 unfoldable pub fineSheet : Sheet → Bool
 fineSheet s =
     allOf
@@ -69,6 +69,7 @@ fineSheet s =
     ∷ leb (s .interval) intervalLimit
     ∷ leb (s .timeout) timeoutLimit
     ∷ leb (s .stop) stopLimit
+    ∷ leb (s .evening) eveningLimit
     ∷ leb (length (s .events)) eventLimit
     ∷ leb (clauseCount (s .events)) clauseLimit
     ∷ every fineEvent (s .events)

@@ -44,7 +44,7 @@ abbrev clauses : List ℕ
 clauses = 0 ∷ 29 ∷ 2 ∷ 4 ∷ 6 ∷ 9 ∷ 16 ∷ 23 ∷ 10 ∷ 0 ∷ 67 ∷ 2 ∷ 4 ∷ 6 ∷ 11 ∷ 18 ∷ 25 ∷ 0 ∷ []
 
 abbrev places : SheetAt
-places = record { name = 5; symbol = 8; interval = 0; timeout = 5; stop = 10_000; t0 = 0; events = 2; clauses = 2 }
+places = record { name = 5; symbol = 8; interval = 0; timeout = 5; stop = 10_000; t0 = 0; evening = 0; events = 2; clauses = 2 }
 
 abbrev numbers : List ℕ
 numbers = 0 ∷ 0 ∷ []

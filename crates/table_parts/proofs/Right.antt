@@ -8,7 +8,7 @@ use borrow.Author.Tests.{le-leb}
 use lib.ListN.{length}
 use Rattle.list.proofs.Laws.{numbered-length}
 use Rattle.text.proofs.Conditions.{_also_, none-left, sure}
-use Rattle.sheet.specs.Sheet.{intervalLimit, timeoutLimit, stopLimit, t0Limit}
+use Rattle.sheet.specs.Sheet.{intervalLimit, timeoutLimit, stopLimit, t0Limit, eveningLimit}
 use Rattle.sheet.specs.Places.{sheetAt}
 use Rattle.sheet.specs.declared.SheetAt.{SheetAt}
 use Rattle.table_words.specs.Words.{keyParts, valueParts}
@@ -62,6 +62,7 @@ module _ {s es cs : List ℕ} {a : SheetAt} {numbers codes : List ℕ} {ks vs : 
       also le-leb (a .timeout) timeoutLimit (ok .timeout)
       also le-leb (a .stop) stopLimit (ok .stop)
       also le-leb (a .t0) t0Limit (ok .t0)
+      also le-leb (a .evening) eveningLimit (ok .evening)
       also none-left)
 
   -- they fit a table

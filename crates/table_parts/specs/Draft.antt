@@ -68,7 +68,7 @@ eventRows es n = numbered (eventRow es) n
 unfoldable pub draft : List ℕ → List ℕ → List ℕ → SheetAt → List ℕ → List ℕ → Words → Words → Parts
 draft s es cs a numbers codes ks vs =
     record {
-      settings = record { interval = a .interval; timeout = a .timeout; stop = a .stop; t0 = a .t0 };
+      settings = record { interval = a .interval; timeout = a .timeout; stop = a .stop; t0 = a .t0; evening = a .evening };
       events = eventRows es (a .events);
       clauses = clauseRows cs numbers codes (a .clauses);
       keys = wordRows (ks .starts) (ks .orders) (ks .ranks) (ks .count);

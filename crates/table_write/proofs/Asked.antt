@@ -23,7 +23,7 @@ unfolding eventRow
 near es i e = e .at
 
 settings-fit : {a : SheetAt} → SettingsOk a → SettingsFit (settingsOf a)
-settings-fit k = record { interval = omega arith; timeout = omega arith; stop = omega arith; t0 = omega arith }
+settings-fit k = record { interval = omega arith; timeout = omega arith; stop = omega arith; t0 = omega arith; evening = omega arith }
 
 words-fit : {texts starts orders ranks : List ℕ} {n : ℕ} → Book texts starts orders ranks n → WordsFit starts orders ranks n
 words-fit b = record {

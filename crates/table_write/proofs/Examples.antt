@@ -19,7 +19,7 @@ abbrev cs : List ℕ
 cs = 0 ∷ 29 ∷ 1 ∷ 3 ∷ 5 ∷ 7 ∷ 14 ∷ 21 ∷ 10 ∷ []
 
 abbrev a : SheetAt
-a = record { name = 5; symbol = 8; interval = 0; timeout = 5; stop = 10_000; t0 = 0; events = 1; clauses = 1 }
+a = record { name = 5; symbol = 8; interval = 0; timeout = 5; stop = 10_000; t0 = 0; evening = 0; events = 1; clauses = 1 }
 
 abbrev numbers : List ℕ
 numbers = 0 ∷ []
@@ -47,7 +47,7 @@ rising n (suc i) h = absurd (omega arith)
 all-fits : TableFits s es cs a numbers codes (word 5 (bytes "a_b_c")) (word 1 (bytes "x"))
 unfolding opened s
 all-fits = record {
-  settings = record { interval = omega arith; timeout = omega arith; stop = omega arith; t0 = omega arith };
+  settings = record { interval = omega arith; timeout = omega arith; stop = omega arith; t0 = omega arith; evening = omega arith };
   events = record { room = omega arith; near = near };
   clauses = record { room = omega arith; keys = omega arith; values = omega arith };
   keys = record { starts-room = omega arith; orders-room = omega arith; ranks-room = omega arith; rising = rising 5 };

@@ -8,7 +8,7 @@ use Rattle.table_layout.specs.Build.{placesOf}
 use Rattle.table_layout.specs.Fits.{SettingsFit}
 
 abbrev pub settingsOf : SheetAt → Settings
-settingsOf a = record { interval = a .interval; timeout = a .timeout; stop = a .stop; t0 = a .t0 }
+settingsOf a = record { interval = a .interval; timeout = a .timeout; stop = a .stop; t0 = a .t0; evening = a .evening }
 
 -- the counts of a sheet with so many keys and values
 abbrev pub countsOf : SheetAt → ℕ → ℕ → Counts

@@ -6,6 +6,7 @@ use table::Counts;
 use table::LAYOUT_NUMBER;
 use table::Places;
 use table::Settings;
+use table_write_rows::put_two;
 ghost use mathlib.Core.Path.{_≡_};
 ghost use mathlib.Core.List.{_++_};
 ghost use Prim.Native.Nat.{_+_, _<_, _≤_};
@@ -44,7 +45,8 @@ fn settings_of(a: SheetAt) -> Settings
         interval: a.interval as u32,
         timeout: a.timeout as u32,
         stop: a.stop as u32,
-        t0: a.t0 as u32,
+        t0: a.t0 as u16,
+        evening: a.evening as u16,
     }
 }
 
@@ -97,7 +99,8 @@ fn put_settings(dst: &mut [u8], at: usize, s: Settings) -> usize
     let p = put_four(dst, at, s.interval);
     let p = put_four(dst, p, s.timeout);
     let p = put_four(dst, p, s.stop);
-    put_four(dst, p, s.t0)
+    let p = put_two(dst, p, s.t0);
+    put_two(dst, p, s.evening)
 }
 
 // Writes the counts.

@@ -20,7 +20,7 @@ ghost use Rattle.table_write_rows.specs.Rows.{PutOf, EventsFit, ClausesF
 const CLAUSE_CODES: usize = 3;
 
 // Writes v in two bytes.
-fn put_two(dst: &mut [u8], at: usize, v: u16) -> usize
+pub fn put_two(dst: &mut [u8], at: usize, v: u16) -> usize
     requires { ⌜ at + 2 ≤ length (now dst) ⌝ }
     ensures { λ r. ⌜ PutOf 2 (now (dst .entry)) (now (dst .exit)) at (put16 v) r ⌝ }
 {

@@ -79,10 +79,10 @@ pub fn real(s: &[u8]) -> f64 {
 
 // An instant, in digits.
 pub fn instant(s: &[u8]) -> Instant
-    ensures { λ r. ⌜ mag (r .0) < 2 ^ 62 ⌝ }
+    ensures { λ r. ⌜ mag (r .0) < 2 ^ 61 ⌝ }
 {
     let v = number(s);
-    if v < 4611686018427387904 {
+    if v < 2305843009213693952 {
         return Instant(le::to_i64(v));
     }
     Instant(0)

@@ -147,14 +147,15 @@ pub fn stop_shown(s: &[u8]) {
     show::real(stop::stop_double(h));
 }
 
-// T|instant|offset: the local time and its day.
+// T|instant|offset|minutes: the local time, and its day where a day opens so many minutes before midnight.
 pub fn time(s: &[u8]) {
     let instant = ask::instant(field(s, 0));
     let offset = ask::offset(field(s, 1));
+    let evening = (ask::number(field(s, 2)) % 65536) as u16;
     let local = instant.local(offset);
     show::signed(local.micros());
     next();
-    show::signed(local.day());
+    show::signed(local.day(evening));
 }
 
 // G|year|month|day: the number of the day, where there is one.

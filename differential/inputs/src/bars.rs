@@ -4,6 +4,7 @@ use crate::season::{Bar, Sheet, Step};
 use crate::{LAST_ID, LAST_INSTANT, LAST_OFFSET, Rng, signals};
 
 const SECOND: i64 = 1_000_000;
+const MINUTE: i64 = 60 * SECOND;
 const DAY: i64 = 86_400 * SECOND;
 
 /// What the next bar is set against: the accepted bars before it as a restore leaves them, and how many there were at the last save.
@@ -143,18 +144,20 @@ fn first_instant(rng: &mut Rng, offset: i64) -> i64 {
     instant.clamp(0, LAST_INSTANT)
 }
 
-/// An instant behind the last, near the interval's end after an earlier bar or near a local midnight; now and then one that is not later.
+/// An instant behind the last, near the interval's end after an earlier bar, near the next opening of a trading day or near a local
+/// midnight; now and then one that is not later.
 fn next_instant(rng: &mut Rng, sheet: &Sheet, last: &Bar, anchor: &Bar, offset: i64) -> i64 {
     let end = last.instant;
-    let local = end + offset * SECOND;
-    let midnight = (local.div_euclid(DAY) + 1) * DAY - offset * SECOND;
+    let evening = sheet.evening_minutes();
+    let ahead = offset * SECOND + *rng.pick(&[evening, evening, 0]) * MINUTE;
+    let opening = ((end + ahead).div_euclid(DAY) + 1) * DAY - ahead;
     let near = near(rng);
     let instant = match rng.below(16) {
         0 => return *rng.pick(&[end, (end - 1).max(0), anchor.instant]),
         1 => end + 1,
         2 => end + 500_000,
         3..6 => anchor.instant + sheet.interval * SECOND + near,
-        6..9 => midnight + near,
+        6..9 => opening + near,
         9 => end + DAY,
         10 => end + rng.between(1, 400 * DAY),
         _ => end + rng.between(1, DAY),

@@ -1,8 +1,8 @@
 //! Seeded inputs for the position book: sheets, seasons of bars, signals and operates alone.
 //!
 //! A season is valid in document 01's sense, and aimed at the boundaries that it names: whole seconds around the interval, ids around the
-//! timeout, prices around the stop, local midnights, late bars, wildcards, scores of every form. `damage` makes wrong bytes of right ones,
-//! `shrink` makes a small season of a large one. The same seed gives the same inputs.
+//! timeout, prices around the stop, local midnights and the openings of trading days, late bars, wildcards, scores of every form. `damage`
+//! makes wrong bytes of right ones, `shrink` makes a small season of a large one. The same seed gives the same inputs.
 
 mod alone;
 mod bars;
@@ -24,6 +24,8 @@ pub use shrink::shrink;
 pub const LAST_INSTANT: i64 = 4_102_444_799_999_999;
 /// The largest offset of a bar, in seconds, on both sides of 0.
 pub const LAST_OFFSET: i64 = 86_399;
+/// The largest evening of a sheet, in minutes.
+pub const LAST_EVENING: i64 = 1_439;
 /// The last id of a bar.
 pub const LAST_ID: i64 = 2_147_483_647;
 /// The most bytes of a text.
@@ -35,9 +37,21 @@ pub const LINE_LIMIT: usize = 256;
 /// The most bytes of a name or a symbol.
 pub const NAME_LIMIT: usize = 256;
 
-/// A valid season: a sheet, and the bars that are fed, with a save and a restore here and there.
+/// A valid season: a sheet, and the bars that are fed, with a save and a restore here and there. Its days open at
+/// midnight, as the Rust's do: one sheet in three says so by a seventh value of 0, the others have none.
 pub fn season(rng: &mut Rng) -> Season {
-    let sheet = sheets::sheet(rng);
+    let evening = rng.once_in(3).then_some(0);
+    with_evening(rng, evening)
+}
+
+/// The same with any evening (document 02, W3), of which the Rust knows nothing.
+pub fn evening_season(rng: &mut Rng) -> Season {
+    let evening = sheets::evening(rng);
+    with_evening(rng, evening)
+}
+
+fn with_evening(rng: &mut Rng, evening: Option<i64>) -> Season {
+    let sheet = sheets::sheet(rng, evening);
     let steps = bars::steps(rng, &sheet);
     Season { sheet, steps }
 }

@@ -36,6 +36,8 @@ pub struct Sheet {
     /// In hundredths of a basis point.
     pub stop: i64,
     pub t0: bool,
+    /// The first line's seventh value, if it has one: how many minutes before midnight the trading day opens.
+    pub evening: Option<i64>,
     /// Whether the numbers are written with ten digits (before the stop's point).
     pub padded: bool,
     /// How many decimals the stop is written with at least, 0 to 2.
@@ -109,9 +111,12 @@ impl Sheet {
     pub fn text(&self) -> String {
         let width = if self.padded { 10 } else { 1 };
         let t0 = i64::from(self.t0);
+        let evening = self
+            .evening
+            .map_or(String::new(), |minutes| format!("|{minutes:0width$}"));
         let events: String = self.events.iter().map(Event::text).collect();
         format!(
-            "P|{}|{}|{:0width$}|{:0width$}|{}|{t0:0width$}\n{events}",
+            "P|{}|{}|{:0width$}|{:0width$}|{}|{t0:0width$}{evening}\n{events}",
             self.name,
             self.symbol,
             self.interval,
@@ -138,6 +143,11 @@ impl Sheet {
     /// The stop in basis points: hundredths divided by 100, rounded once.
     pub fn stop_points(&self) -> f64 {
         self.stop as f64 / 100.0
+    }
+
+    /// How many minutes before midnight the trading day opens: 0 where the first line does not say.
+    pub fn evening_minutes(&self) -> i64 {
+        self.evening.unwrap_or(0)
     }
 
     pub fn clauses(&self) -> impl Iterator<Item = &Clause> {

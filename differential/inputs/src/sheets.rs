@@ -1,14 +1,15 @@
 //! Valid sheets.
 
 use crate::season::{Clause, Event, Kind, Sheet};
-use crate::{EVENT_LIMIT, LINE_LIMIT, Rng, TEXT_LIMIT, words};
+use crate::{EVENT_LIMIT, LAST_EVENING, LINE_LIMIT, Rng, TEXT_LIMIT, words};
 
 /// Stops whose hundredths over 1,000,000, rounded once, are another double than over 100 and then over 10,000.
 const TWICE_ROUNDED: [i64; 5] = [1_915, 2_498, 3_830, 4_996, 87_955];
 
-/// A sheet: mostly a few events over a few keys, now and then one of the largest size.
-pub fn sheet(rng: &mut Rng) -> Sheet {
-    let mut sheet = settings(rng);
+/// A sheet whose first line has that seventh value, or none: mostly a few events over a few keys, now and then one of the
+/// largest size.
+pub fn sheet(rng: &mut Rng, evening: Option<i64>) -> Sheet {
+    let mut sheet = settings(rng, evening);
     let large = rng.once_in(150);
     let keys = key_pool(rng, if large { 60 } else { 4 });
     let openings = if large { 20 } else { rng.below(5) };
@@ -26,7 +27,7 @@ pub fn sheet(rng: &mut Rng) -> Sheet {
     sheet
 }
 
-fn settings(rng: &mut Rng) -> Sheet {
+fn settings(rng: &mut Rng, evening: Option<i64>) -> Sheet {
     Sheet {
         name: words::name(rng),
         symbol: words::name(rng),
@@ -34,6 +35,7 @@ fn settings(rng: &mut Rng) -> Sheet {
         timeout: timeout(rng),
         stop: stop(rng),
         t0: rng.once_in(2),
+        evening,
         padded: rng.once_in(10),
         decimals: if rng.once_in(3) { 1 + rng.below(2) } else { 0 },
         events: Vec::new(),
@@ -67,6 +69,17 @@ fn stop(rng: &mut Rng) -> i64 {
         5 => *rng.pick(&[50, 725, 1_250, 15_625, 31_250]),
         6 => *rng.pick(&TWICE_ROUNDED),
         _ => 100 * *rng.pick(&[0, 1, 100, 250, 300, 500, 1_000]),
+    }
+}
+
+/// A first line's seventh value, or none, where the trading day may open at any minute; half open at 21:00.
+pub fn evening(rng: &mut Rng) -> Option<i64> {
+    match rng.below(8) {
+        0 => None,
+        1 => Some(0),
+        2 => Some(rng.between(0, LAST_EVENING)),
+        3 => Some(*rng.pick(&[1, 60, 720, LAST_EVENING - 1, LAST_EVENING])),
+        _ => Some(180),
     }
 }
 

@@ -92,6 +92,7 @@ fn simpler_sheet(season: &Season) -> impl Iterator<Item = Season> {
         with(season, |copy| copy.sheet.stop = 0),
         with(season, |copy| copy.sheet.stop -= copy.sheet.stop % 100),
         with(season, |copy| copy.sheet.t0 = true),
+        with(season, |copy| copy.sheet.evening = None),
     ];
     let events = 0..season.sheet.events.len();
     settings

@@ -7,20 +7,26 @@ fn seasons(count: u64) -> impl Iterator<Item = Season> {
     (0..count).map(|seed| season(&mut Rng::new(seed)))
 }
 
+fn evening_seasons(count: u64) -> impl Iterator<Item = Season> {
+    (0..count).map(|seed| evening_season(&mut Rng::new(seed)))
+}
+
 #[test]
 fn the_same_seed_gives_the_same_season() {
     assert!(seasons(200).eq(seasons(200)));
+    assert!(evening_seasons(200).eq(evening_seasons(200)));
 }
 
 #[test]
 fn sheets_are_within_the_limits() {
     let mut longest = 0;
-    for Season { sheet, .. } in seasons(5_000) {
+    for Season { sheet, .. } in seasons(5_000).chain(evening_seasons(5_000)) {
         longest = longest.max(sheet.text().len());
         assert!(sheet.events.len() <= EVENT_LIMIT && sheet.clauses().count() <= LINE_LIMIT);
         assert!(sheet.events.is_sorted_by_key(|event| event.exit));
         assert!(sheet.name.len() <= NAME_LIMIT && sheet.symbol.len() <= NAME_LIMIT);
         assert!((0..=100_000_000).contains(&sheet.stop));
+        assert!((0..=LAST_EVENING).contains(&sheet.evening_minutes()));
     }
     assert_eq!(longest, TEXT_LIMIT);
 }
@@ -38,10 +44,59 @@ fn a_stop_field_says_the_stop() {
     assert!(decimals.iter().all(|count| *count > 500), "{decimals:?}");
 }
 
+/// The seventh value of a sheet's first line.
+fn evening_field(sheet: &Sheet) -> Option<String> {
+    let text = sheet.text();
+    let first = text.split('\n').next().expect("a first line");
+    first.split('|').nth(7).map(str::to_string)
+}
+
+#[test]
+fn the_days_of_a_season_open_at_midnight() {
+    let fields: Vec<_> = seasons(5_000)
+        .map(|season| evening_field(&season.sheet))
+        .collect();
+    let count = |field| fields.iter().filter(|f| f.as_deref() == field).count();
+    let counts = [None, Some("0"), Some("0000000000")].map(count);
+    assert!(counts.iter().all(|count| *count > 100), "{counts:?}");
+    assert_eq!(counts.iter().sum::<usize>(), 5_000);
+}
+
+#[test]
+fn an_evening_season_says_any_evening() {
+    let mut said = HashSet::new();
+    for Season { sheet, .. } in evening_seasons(5_000) {
+        let minutes = evening_field(&sheet).map(|field| field.parse().expect("a number"));
+        assert_eq!(minutes, sheet.evening);
+        said.insert(minutes);
+    }
+    let named = [None, Some(0), Some(1), Some(180), Some(LAST_EVENING)];
+    assert!(named.iter().all(|evening| said.contains(evening)));
+    assert!(said.len() > 300, "{}", said.len());
+}
+
+/// At both sides of 21:00, where it opens the next trading day.
+#[test]
+fn bars_stand_at_the_openings_of_trading_days() {
+    let (minute, day) = (60_000_000, 86_400_000_000);
+    let mut sides = [0; 2];
+    for season in evening_seasons(5_000).filter(|season| season.sheet.evening == Some(180)) {
+        for bar in season.bars() {
+            let ahead = bar.instant + bar.offset * 1_000_000 + 180 * minute;
+            match ahead.rem_euclid(day) {
+                0 => sides[0] += 1,
+                into if into == day - 1 => sides[1] += 1,
+                _ => {}
+            }
+        }
+    }
+    assert!(sides.iter().all(|count| *count > 100), "{sides:?}");
+}
+
 #[test]
 fn bars_are_within_the_limits() {
     let mut most = 0;
-    for season in seasons(5_000) {
+    for season in seasons(5_000).chain(evening_seasons(5_000)) {
         for bar in season.bars() {
             most = most.max(bar.signals.len());
             let keys: HashSet<_> = bar.signals.iter().map(|(key, _)| key).collect();

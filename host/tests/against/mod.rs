@@ -2,12 +2,14 @@
 
 pub mod books;
 mod boundaries;
+mod evenings;
 pub mod lines;
 pub mod numbers;
 pub mod round;
 mod stops;
 pub mod tables;
 pub mod texts;
+mod trading_days;
 
 use crate::model;
 use position_book::raw;

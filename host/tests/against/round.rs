@@ -21,7 +21,7 @@ struct Round<'a> {
 pub fn round(comparison: &mut Comparison, seed: u64) {
     comparison.seed = seed;
     let mut rng = Rng::new(seed);
-    let season = inputs::season(&mut rng);
+    let season = inputs::evening_season(&mut rng);
     let text = season.sheet.text().into_bytes();
     let table = buffer(&mut rng, TABLE_LENGTH);
     let by_line = rng.once_in(3);
@@ -325,7 +325,15 @@ impl Round<'_> {
 
     /// Feeds bars behind a book's end, with ids around its reference's and signals of the season.
     fn feed_made(&mut self, bars: &[&Bar], mut arguments: Arguments) {
-        let times = [1, 1_000_000, 10_000_000, 43_200_000_000, 86_400_000_000];
+        let times = [
+            1,
+            1_000_000,
+            10_000_000,
+            10_800_000_000,
+            43_200_000_000,
+            75_600_000_000,
+            86_400_000_000,
+        ];
         for _ in 0..3 {
             let end = i64::from_le_bytes(arguments.book[32..40].try_into().unwrap());
             let id = i32::from_le_bytes(arguments.book[68..72].try_into().unwrap());

@@ -13,7 +13,7 @@ const LAYOUT: u32 = 0xff00_0002;
 /// A copy of a table, changed in one respect. It may still be a table.
 pub fn fault(rng: &mut Rng, table: &[u8]) -> Vec<u8> {
     let mut copy = table.to_vec();
-    match rng.below(16) {
+    match rng.below(17) {
         0 | 1 => header_fault(rng, &mut copy),
         2 | 3 => row_fault(rng, &mut copy),
         4 => exchange(rng, &mut copy),
@@ -24,6 +24,7 @@ pub fn fault(rng: &mut Rng, table: &[u8]) -> Vec<u8> {
         9 => anywhere(rng, &mut copy),
         10 => layout_fault(rng, &mut copy),
         11 => former(&mut copy),
+        12 => half_fault(rng, &mut copy),
         _ => meaning_fault(rng, &mut copy),
     }
     copy
@@ -69,6 +70,18 @@ fn layout_fault(rng: &mut Rng, table: &mut [u8]) {
         _ => rng.bits() as u32,
     };
     table[..4].copy_from_slice(&number.to_le_bytes());
+}
+
+/// Another t0 or evening, the two numbers of 16 bits in the header: at a limit or beside it, or with a bit changed.
+fn half_fault(rng: &mut Rng, table: &mut [u8]) {
+    let at = *rng.pick(&[16, 18]);
+    let now = u16::from_le_bytes([table[at], table[at + 1]]);
+    let limits: [u16; 8] = [0, 1, 180, 255, 1_438, 1_439, 32_767, 65_535];
+    let number = match rng.below(3) {
+        0 => now ^ 1 << rng.below(16),
+        _ => rng.pick(&limits).wrapping_add(rng.below(2) as u16),
+    };
+    table[at..at + 2].copy_from_slice(&number.to_le_bytes());
 }
 
 /// The same sheet in the former layout: no layout number, the stop in whole basis points, all four bytes earlier.
@@ -253,11 +266,12 @@ fn name(rng: &mut Rng) -> String {
 
 fn setting_fault(rng: &mut Rng, sheet: &mut Sheet) {
     let more = rng.below(2) as u32;
-    match rng.below(5) {
+    match rng.below(6) {
         0 => sheet.interval = 4_102_444_800 + more,
         1 => sheet.timeout = 2_147_483_647 + more,
         2 => sheet.stop = *rng.pick(&[1_000_000, 100_000_000]) + more,
-        3 => sheet.name = name(rng),
+        3 => sheet.evening = 1_439 + more as u16,
+        4 => sheet.name = name(rng),
         _ => sheet.symbol = name(rng),
     }
 }

@@ -74,15 +74,47 @@ const STOPS: [&str; 38] = [
     "12.５",
 ];
 
+/// Seventh values of a first line (document 02, W3): both sides of the limit, what 16 bits would make right again, and
+/// each kind that is none; the last are values too many.
+const EVENINGS: [&str; 26] = [
+    "0",
+    "1",
+    "180",
+    "1438",
+    "1439",
+    "1440",
+    "0000001439",
+    "0000001440",
+    "00000001439",
+    "65535",
+    "65536",
+    "65716",
+    "4294967476",
+    "9999999999",
+    "",
+    "+180",
+    "-1",
+    " 180",
+    "180 ",
+    "180.0",
+    "21:00",
+    "1e2",
+    "１８０",
+    "180\r",
+    "180|",
+    "180|0",
+];
+
 /// A copy of a text with a fault in its bytes, its fields, its lines or its length.
 pub fn fault(rng: &mut Rng, text: &[u8]) -> Vec<u8> {
-    match rng.below(9) {
+    match rng.below(10) {
         0 => (0..rng.below(80)).map(|_| rng.bits() as u8).collect(),
         1 => long(rng, text),
         2 => crowd(rng, text),
         3 => line_fault(rng, text),
         4 | 5 => field_fault(rng, text),
         6 if text.starts_with(b"P|") => stop_fault(rng, text),
+        7 if text.starts_with(b"P|") => evening_fault(rng, text),
         _ => inputs::damage(rng, text),
     }
 }
@@ -151,6 +183,23 @@ fn stop_fault(rng: &mut Rng, text: &[u8]) -> Vec<u8> {
         };
     }
     fields.join(&b'|')
+}
+
+/// A sheet with another seventh value in its first line, right or wrong; or one that has a byte of it changed, more or
+/// less.
+fn evening_fault(rng: &mut Rng, text: &[u8]) -> Vec<u8> {
+    let end = text.iter().position(|byte| *byte == b'\n');
+    let (first, rest) = text.split_at(end.unwrap_or(text.len()));
+    let mut fields: Vec<Vec<u8>> = first
+        .split(|byte| *byte == b'|')
+        .map(<[u8]>::to_vec)
+        .collect();
+    fields.resize(8, b"180".to_vec());
+    fields[7] = match rng.below(3) {
+        0 => inputs::damage(rng, &fields[7]),
+        _ => rng.pick(&EVENINGS).as_bytes().to_vec(),
+    };
+    [fields.join(&b'|'), rest.to_vec()].concat()
 }
 
 /// A field replaced by another.

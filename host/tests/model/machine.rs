@@ -1,4 +1,5 @@
-//! Document 01, "Bars and the plain machine": a bar, the state, and what an accepted bar does, step by step.
+//! Document 01, "Bars and the plain machine": a bar, the state, and what an accepted bar does, step by step; its day by
+//! document 02, W3.
 
 use super::texts::Sheet;
 use super::{Answer, require};
@@ -9,6 +10,7 @@ pub const SO: u8 = 5;
 pub const SE: u8 = 6;
 const HO: u8 = 2;
 pub const SECOND: i64 = 1_000_000;
+const MINUTE: i64 = 60_000_000;
 const DAY: i64 = 86_400_000_000;
 
 /// An instant in microseconds, UTC, and an offset in seconds.
@@ -82,8 +84,9 @@ impl Time {
         self.instant + i64::from(self.offset) * SECOND
     }
 
-    fn day(self) -> i64 {
-        self.local().div_euclid(DAY)
+    /// The trading day, which opens so many minutes before midnight.
+    fn day(self, evening: u16) -> i64 {
+        (self.local() + i64::from(evening) * MINUTE).div_euclid(DAY)
     }
 
     /// Whole seconds from an earlier time.
@@ -189,10 +192,11 @@ fn last_open(state: &State, side: Pos) -> Option<Time> {
     }
 }
 
-/// Whether the position held may be closed today: t0, or no last open of its side, or one of another day.
+/// Whether the position held may be closed today: t0, or no last open of its side, or one of another trading day.
 fn may_close(sheet: &Sheet, state: &State, bar: Bar) -> bool {
     let last = last_open(state, state.pos);
-    sheet.t0 || last.is_none_or(|last| last.day() != bar.time.day())
+    let day = |time: Time| time.day(sheet.evening);
+    sheet.t0 || last.is_none_or(|last| day(last) != day(bar.time))
 }
 
 /// Steps 5 and 6: closes the position held by the event, the stop or the timeout.

@@ -1,8 +1,8 @@
 //! Document 01, "Table", with the bytes of docs/TABLE.md: a sheet as a table, which bytes are a table and which sheet they mean.
 
 use super::texts::{
-    Clause, Event, INTERVAL_LIMIT, Kind, NAME_LIMIT, SCORE_LIMIT, STOP_LIMIT, Sheet, Signal,
-    TIMEOUT_LIMIT, WILDCARD, read_sheet,
+    Clause, EVENING_LIMIT, Event, INTERVAL_LIMIT, Kind, NAME_LIMIT, SCORE_LIMIT, STOP_LIMIT, Sheet,
+    Signal, TIMEOUT_LIMIT, WILDCARD, read_sheet,
 };
 use super::{Answer, bytes_at, number, put, require, u32_at};
 use std::ops::Range;
@@ -15,6 +15,18 @@ const CLAUSE_ROW: usize = 12;
 const WORD_ROW: usize = 8;
 const WILD: u16 = 65_535;
 const KINDS: [Kind; 3] = [Kind::All, Kind::Any, Kind::Not];
+/// What the header's numbers behind the layout number may be: settings and counts. The fourth is two of 16 bits each,
+/// which have limits of their own.
+const LIMITS: [u32; 8] = [
+    INTERVAL_LIMIT,
+    TIMEOUT_LIMIT,
+    STOP_LIMIT,
+    u32::MAX,
+    32,
+    256,
+    256,
+    768,
+];
 
 /// The call `compile`.
 pub fn compile(text: &[u8], table: &mut [u8]) -> u32 {
@@ -87,7 +99,7 @@ fn first_uses<'a>(words: impl Iterator<Item = &'a String>) -> Vec<&'a str> {
 /// and the last ends.
 fn header(sheet: &Sheet, counts: [usize; 4], lengths: &[usize]) -> Vec<u8> {
     let mut numbers = vec![LAYOUT, sheet.interval, sheet.timeout, sheet.stop];
-    numbers.push(sheet.t0.into());
+    numbers.push(u32::from(sheet.evening) << 16 | u32::from(sheet.t0));
     numbers.extend(counts.map(|count| count as u32));
     numbers.extend([sheet.name.len() as u32, sheet.symbol.len() as u32]);
     let mut place = HEADER as u32;
@@ -161,7 +173,9 @@ fn sorted<T: AsRef<str>>(words: &[T]) -> Vec<usize> {
 
 /// A header that is in range: its numbers, and the places of the parts.
 struct Header {
-    settings: [u32; 4],
+    settings: [u32; 3],
+    t0: bool,
+    evening: u16,
     name: usize,
     events: Range<usize>,
     clauses: Range<usize>,
@@ -185,14 +199,15 @@ fn decode(table: &[u8]) -> Option<Sheet> {
     let fine = keys.iter().all(key_ok) && values.iter().all(value_ok);
     let clauses = read_clauses(&table[header.clauses.clone()], &keys, &values)?;
     let events = read_events(table, &header, clauses)?;
-    let [interval, timeout, stop, t0] = header.settings;
+    let [interval, timeout, stop] = header.settings;
     fine.then_some(Sheet {
         name: clean(&texts[..header.name])?,
         symbol: clean(&texts[header.name..])?,
         interval,
         timeout,
         stop,
-        t0: t0 == 1,
+        t0: header.t0,
+        evening: header.evening,
         events,
     })
 }
@@ -203,28 +218,22 @@ fn read_header(table: &[u8]) -> Option<Header> {
         return None;
     }
     let numbers: [u32; 19] = std::array::from_fn(|n| u32_at(table, 4 + 4 * n));
-    let [interval, timeout, stop, t0, ..] = numbers;
-    let limits = [
-        INTERVAL_LIMIT,
-        TIMEOUT_LIMIT,
-        STOP_LIMIT,
-        1,
-        32,
-        256,
-        256,
-        768,
-    ];
+    let [interval, timeout, stop, ..] = numbers;
+    let [t0, evening] = [16, 18].map(|at| u16::from_le_bytes(bytes_at(table, at)));
     let names = [numbers[8], numbers[9]].map(|length| length as usize);
     let in_range = numbers
         .iter()
-        .zip(limits)
+        .zip(LIMITS)
         .all(|(number, limit)| *number <= limit)
+        && (t0 <= 1 && evening <= EVENING_LIMIT)
         && names.iter().all(|length| *length <= NAME_LIMIT);
     let places: [usize; 9] = std::array::from_fn(|n| numbers[10 + n] as usize);
     let follow = in_range && places_follow(&numbers.map(|n| n as usize), &places);
     let part = |n: usize| places[n]..places[n + 1];
     follow.then(|| Header {
-        settings: [interval, timeout, stop, t0],
+        settings: [interval, timeout, stop],
+        t0: t0 == 1,
+        evening,
         name: names[0],
         events: part(0),
         clauses: part(1),

@@ -1,4 +1,5 @@
-//! Document 01, "Texts": lines and fields, signals, operates, the position sheet; its stop by document 02, W2.
+//! Document 01, "Texts": lines and fields, signals, operates, the position sheet; its stop by document 02, W2, its
+//! evening by W3.
 
 use super::{Answer, number, put, require};
 use position_book::raw::{NameAnswer, OperateAnswer, SignalAnswer};
@@ -11,6 +12,8 @@ pub const INTERVAL_LIMIT: u32 = 4_102_444_800;
 pub const TIMEOUT_LIMIT: u32 = 2_147_483_647;
 /// In hundredths of a basis point.
 pub const STOP_LIMIT: u32 = 100_000_000;
+/// In minutes.
+pub const EVENING_LIMIT: u16 = 1_439;
 pub const SCORE_LIMIT: i32 = 100;
 pub const WILDCARD: &str = "任意";
 
@@ -34,6 +37,8 @@ pub struct Sheet {
     /// In hundredths of a basis point.
     pub stop: u32,
     pub t0: bool,
+    /// How many minutes before midnight the trading day opens.
+    pub evening: u16,
     pub events: Vec<Event>,
 }
 
@@ -119,6 +124,12 @@ fn read_stop(field: &str) -> Answer<u32> {
     Ok(hundredths)
 }
 
+/// The minutes of a seventh value, up to their limit (3); 0 without it.
+fn read_evening(field: Option<&str>) -> Answer<u16> {
+    let minutes = field.map_or(Ok(0), |field| unsigned(field, EVENING_LIMIT.into()));
+    minutes.map(|minutes| minutes as u16)
+}
+
 /// A name or symbol within its limit (7).
 fn name_field(field: &str) -> Answer<String> {
     require(field.len() <= NAME_LIMIT, 7)?;
@@ -162,9 +173,14 @@ pub fn read_sheet(bytes: &[u8]) -> Answer<Sheet> {
     Ok(sheet)
 }
 
+/// The first line: its tag and six values, or seven (2).
 fn first_line(line: &str) -> Answer<Sheet> {
     let fields = fields(line)?;
-    let ["P", name, symbol, interval, timeout, stop, t0] = fields[..] else {
+    let (first, evening) = match &fields[..] {
+        [first @ .., evening] if first.len() == 7 => (first, Some(*evening)),
+        first => (first, None),
+    };
+    let ["P", name, symbol, interval, timeout, stop, t0] = *first else {
         return Err(2);
     };
     Ok(Sheet {
@@ -174,6 +190,7 @@ fn first_line(line: &str) -> Answer<Sheet> {
         timeout: unsigned(timeout, TIMEOUT_LIMIT)?,
         stop: read_stop(stop)?,
         t0: unsigned(t0, 1)? == 1,
+        evening: read_evening(evening)?,
         events: Vec::new(),
     })
 }

@@ -22,10 +22,21 @@ returns-3 c = broken _ 2 (lt-leb _ _ (c .if3 .taken))
 
 returns-4 : tie.Need-returns-4
 unfolding settingsOk
-returns-4 c =
-    let d = c .before in
-    decided (le-leb _ _ (d .before .before .before .before .if1 .left) also le-leb _ _ (d .before .before .if2 .left) also le-leb _ _ (d .if3 .left) also none-left) refl
+returns-4 c = broken _ 3 (lt-leb _ _ (c .if4 .taken))
+
+returns-5 : tie.Need-returns-5
+unfolding settingsOk
+returns-5 c =
+    let e = c .before in
+    let d = e .before .before in
+    decided
+    (le-leb _ _ (d .before .before .before .before .if1 .left)
+    also le-leb _ _ (d .before .before .if2 .left)
+    also le-leb _ _ (d .if3 .left)
+    also le-leb _ _ (e .if4 .left)
+    also none-left)
+    refl
 
 pub settings-ok-spec : {M : Type 1} → statement M
 settings-ok-spec = tie.close
-    (tie.spec (λ c. search needs) returns (λ c. search needs) returns-2 (λ c. search needs) returns-3 (λ c. search needs) returns-4)
+    (tie.spec (λ c. search needs) returns (λ c. search needs) returns-2 (λ c. search needs) returns-3 (λ c. search needs) returns-4 (λ c. search needs) returns-5)

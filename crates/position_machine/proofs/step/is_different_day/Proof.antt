@@ -11,7 +11,7 @@ returns-2 : tie.Need-returns-2
 returns-2 c =
     let d = c .before in
     let l = d .before .before in
-    days-differ (l .before .before .args .bar) _ _ (l .last .given .1) (record { sfits = d .local-day .ok }) (record { sfits = c .local-day2 .ok }) (d .local-day .ensures) (c .local-day2 .ensures)
+    days-differ (l .before .before .args .evening) (l .before .before .args .bar) _ _ (l .last .given .1) (record { sfits = d .local-day .ok }) (record { sfits = c .local-day2 .ok }) (d .local-day .ensures) (c .local-day2 .ensures)
 
 pub is-different-day-spec : {M : Type 1} → statement M
 is-different-day-spec = tie.close (tie.spec (λ c. search needs) (λ c. search needs) local-day-requires (λ c κs. search needs) (λ c. search needs) returns-2)
