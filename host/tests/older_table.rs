@@ -1,12 +1,34 @@
-//! A table of the former layout (docs/TABLE.md, "Older and later tables") is none: every exported call that takes a table
-//! gives 9 for it and changes no byte, whatever its interval is. Its stop would be read as a hundredth of what was signed.
+//! Tables that were stored by earlier versions (docs/TABLE.md, "Older and later tables").
+//!
+//! One of the former layout is none: every exported call that takes a table gives 9 for it and changes no byte, whatever
+//! its interval is. Its stop would be read as a hundredth of what was signed. One of this layout from before sheets had an
+//! evening is a table still, with the meaning that it had; where the evening now stands it has zeros.
+
+mod printed;
 
 use position_book::{Refusal, Table, raw};
-use std::fs;
-use std::path::Path;
+use printed::{file, printed, season};
 
 /// Tables as they were compiled before stops had decimals: case *1's, and the season's.
 const OLDER: [&str; 2] = ["case1", "season"];
+
+/// Tables as they were compiled before sheets had an evening, and of each the run program's input with its sheet and what
+/// is printed of it.
+const WITHOUT_EVENING: [[&str; 3]; 2] = [
+    [
+        "case1-without-evening",
+        "crates/run/stdin",
+        "crates/run/stdout",
+    ],
+    [
+        "season-without-evening",
+        "examples/season",
+        "examples/season.out",
+    ],
+];
+
+/// Where the evening stands in a table.
+const EVENING: std::ops::Range<usize> = 18..20;
 
 /// Intervals at the former range's ends and between them, where the layout number stands now; then numbers beside that
 /// one, and that one, which no interval was.
@@ -52,10 +74,7 @@ struct Lent {
 
 /// A stored table: hexadecimal digits, remarks behind `#`, zeros up to the length of a table.
 fn older(name: &str) -> Vec<u8> {
-    let path = Path::new(env!("CARGO_MANIFEST_DIR"))
-        .join("tests/older")
-        .join(name);
-    let text = fs::read_to_string(path).unwrap();
+    let text = file(&format!("host/tests/older/{name}"));
     let digits: String = text.lines().filter(|line| !line.starts_with('#')).collect();
     let pair = |at: usize| u8::from_str_radix(&digits[at..at + 2], 16).unwrap();
     let mut table: Vec<u8> = (0..digits.len()).step_by(2).map(pair).collect();
@@ -135,6 +154,54 @@ fn every_call_refuses_an_older_table_and_changes_nothing() {
             }
             assert_eq!(Table::from_bytes(&lent.table), Err(Refusal::NotTable));
         }
+    }
+}
+
+/// The table of a sheet's text.
+fn compiled(sheet: &str) -> Vec<u8> {
+    let mut table = vec![7; raw::TABLE_LENGTH];
+    assert_eq!(raw::compile(sheet.as_bytes(), &mut table), 0, "{sheet}");
+    table
+}
+
+#[test]
+fn every_call_takes_a_table_without_an_evening() {
+    let mut lent = lent();
+    for [name, ..] in WITHOUT_EVENING {
+        lent.table = older(name);
+        for call in CALLS {
+            assert_eq!(number(call, &mut lent.clone()), 0, "{call}, {name}");
+        }
+    }
+}
+
+#[test]
+fn a_table_without_an_evening_means_what_it_meant() -> Result<(), Refusal> {
+    for [name, input, output] in WITHOUT_EVENING {
+        let (table, input) = (older(name), file(input));
+        let (sheet, lines) = season(&input);
+        assert!(compiled(sheet) == table, "{name} is not its sheet's table");
+        let said = sheet.replacen('\n', "|0\n", 1);
+        assert!(compiled(&said) == table, "{name} is not that of 0");
+        let table = Table::from_bytes(&table)?;
+        assert_eq!(printed(&table, lines)?, file(output), "{name}");
+    }
+    Ok(())
+}
+
+/// With an evening set in its bytes it is the table of the sheet with that seventh value.
+#[test]
+fn an_evening_fits_in_a_table_without_one() {
+    for [name, input, _] in WITHOUT_EVENING {
+        let (mut table, input) = (older(name), file(input));
+        assert_eq!(table[EVENING], [0, 0]);
+        for minutes in 0..=1_439u16 {
+            let said = season(&input).0.replacen('\n', &format!("|{minutes}\n"), 1);
+            table[EVENING].copy_from_slice(&minutes.to_le_bytes());
+            assert!(compiled(&said) == table, "{name}, {minutes}");
+        }
+        table[EVENING].copy_from_slice(&1_440u16.to_le_bytes());
+        assert_eq!(Table::from_bytes(&table), Err(Refusal::NotTable), "{name}");
     }
 }
 

@@ -1,5 +1,6 @@
 -- The definitions of the compiled table.
 pub mod Layout
 pub mod Table
+pub mod Older
 pub mod Compile
 pub mod Read
