@@ -25,7 +25,8 @@ for line in sys.stdin:
         said = "refused with " + f[1] if f[1] != "0" else "changed" if f[3] == "1" else ""
         print(f"bar {bar:2}  {POSITION[f[2]]:5}  {said}".rstrip())
     elif f[0] == "R":
-        print(f"pair    {SIDE[f[3]]:5}  {time(f[4])} at {real(f[6])} to {time(f[5])} at {real(f[7])}, {real(f[11])} bp: {f[9]}")
+        lots = "1 lot" if f[12] == "1" else f[12] + " lots"
+        print(f"pair    {SIDE[f[3]]:5}  {time(f[4])} at {real(f[6])} to {time(f[5])} at {real(f[7])}, {real(f[11])} bp, {lots}: {f[9]}")
     elif f[0] == "H":
         print(f"hold    {POSITION[f[2]]:5}  {time(f[1])} at {real(f[3])}, {real(f[4])} bp")
     else:

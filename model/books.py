@@ -106,13 +106,13 @@ class Script(tables.Script):
 
     def pair(self, i):
         n, r = self.row(i, model.pair_rows, True)
-        said = ""
+        said, lots = "", ""
         if n == 0:
             self.start(r["symbol"] + r["mark"] + r["seq"])
             values = [r["side"].decode(), r["open"], r["close"], double(r["po"]), double(r["pc"]), r["gap"], double(r["days"]), double(r["yld"])]
             texts = [r[k].decode() for k in ("symbol", "mark", "seq")]
-            said = "|".join(str(v) for v in values + texts) + "|"
-        return said + ended(n, self.get("R"))
+            said, lots = "|".join(str(v) for v in values + texts) + "|", f"|{r['lots']}"
+        return said + ended(n, self.get("R")) + lots
 
     def hold(self, i):
         n, r = self.row(i, lambda sh, st: model.hold_rows(st))

@@ -1,6 +1,7 @@
 #!/usr/bin/env python3
-"""Sets the model against every row of the proved tables (crates/position/specs/Cases.antt, Further.antt, TradingDay.antt):
-the printed lines and the records' operates of each run, and the doubles that are rounded."""
+"""Sets the model against every row of the proved tables (crates/position/specs/Cases.antt, Further.antt, TradingDay.antt,
+Lots.antt): the printed lines and the records' operates of each run, the lots of its records and holds where they are
+said, and the doubles that are rounded."""
 import os
 import re
 import sys
@@ -8,8 +9,9 @@ import sys
 sys.dont_write_bytecode = True
 import model
 
+FILES = ("Cases.antt", "Further.antt", "TradingDay.antt", "Lots.antt")
 SPECS = os.path.join(os.path.dirname(os.path.abspath(__file__)), "..", "crates", "position", "specs")
-TEXT = "".join(open(os.path.join(SPECS, name), encoding="utf-8").read() for name in ("Cases.antt", "Further.antt", "TradingDay.antt"))
+TEXT = "".join(open(os.path.join(SPECS, name), encoding="utf-8").read() for name in FILES)
 NAMES = dict(re.findall(r'^(up|down) = (".*")$', TEXT, re.M))
 
 
@@ -19,13 +21,13 @@ def strings(t):
 
 
 def sheet(name, position, bars):
-    """what `soy` and `both` put around the bars"""
+    """what `soy`, `both` and `hedge` put around the bars"""
     body = re.search(rf"^{name} position bars =\n(.*?)\n\n", TEXT, re.M | re.S).group(1)
     return [position] + strings(body) + bars
 
 
 def lines(t):
-    m = re.match(r'\s*(soy|both) ("[^"]*")\s*\((.*)\)\s*$', t, re.S)
+    m = re.match(r'\s*(soy|both|hedge) ("[^"]*")\s*\((.*)\)\s*$', t, re.S)
     return sheet(m.group(1), m.group(2).strip('"'), strings(m.group(3))) if m else strings(t)
 
 
@@ -33,15 +35,36 @@ def joined(ls):
     return "".join(l + "\n" for l in ls).encode()
 
 
-def operates(inp):
-    """the operates of the records after a run; none where the input is refused"""
+def state(inp):
+    """the machine's state after a run; the fresh one where the input is refused"""
     kept = []
     rows, model.pair_rows = model.pair_rows, lambda sh, st: kept.append(st) or rows(sh, st)
     try:
         model.run(inp)
     finally:
         model.pair_rows = rows
-    return [r.op for r in kept[0].records] if kept else []
+    return kept[0] if kept else model.State()
+
+
+# a case, and behind it the lots of its records and holds, if it says them
+CASE = re.compile(
+    r"input =(.*?);\s*output =(.*?);\s*operates =([^;}]*);?\s*\}(?:;\s*records =([^;]*);\s*holds =([^;]*);)?", re.S
+)
+
+
+def numbers(t):
+    return [int(n) for n in re.findall(r"\d+", t)]
+
+
+def is_right(inp, out, ops, records, holds):
+    """whether the model does what a case says"""
+    asked = joined(lines(inp))
+    st = state(asked)
+    right = model.run(asked) == joined(lines(out))
+    right &= [r.op for r in st.records] == [getattr(model, o) for o in re.findall(r"\b(LO|LE|SO|SE)\b", ops)]
+    if records is not None:
+        right &= [r.lots for r in st.records] == numbers(records) and [h.lots for h in st.holds] == numbers(holds)
+    return right
 
 
 def double(t):
@@ -50,13 +73,12 @@ def double(t):
 
 
 def main():
-    cases = re.findall(r"input =(.*?);\n\s*output =(.*?);\n\s*operates =(.*?);", TEXT, re.S)
+    cases = [m.groups() for m in CASE.finditer(TEXT)]
     wrong = 0
-    for n, (inp, out, ops) in enumerate(cases):
-        asked = joined(lines(inp))
-        want = [getattr(model, o) for o in re.findall(r"\b(LO|LE|SO|SE)\b", ops)]
-        if model.run(asked) != joined(lines(out)) or operates(asked) != want:
+    for n, case in enumerate(cases):
+        if not is_right(*case):
             wrong += 1
+            asked = joined(lines(case[0]))
             print(f"case {n + 1} differs:\n{asked.decode()}\nthe model prints\n{model.run(asked).decode()}", file=sys.stderr)
     # rows of the form `Rounds (..) (..)`, as in (whole 5 ÷ whole 2) (whole 3)
     rounded = re.findall(r"^    ∷ Rounds \((.*)\) \((.*)\)$", TEXT, re.M)

@@ -1,7 +1,7 @@
 #!/usr/bin/env python3
 """A plain model of document 01: sheets, matching, the machine, the book's bytes and checks, rows, the run program; and
-of document 02: W1, the exchange's comma lines, W2, stops in hundredths of a basis point, and W3, the trading day that opens
-in the evening.
+of document 02: W1, the exchange's comma lines, W2, stops in hundredths of a basis point, W3, the trading day that opens
+in the evening, and W4, lots.
 
 It is independent of the definitions and of the code: it was written before they were read. (One line was changed after that:
 `choose` asks openings before exits in a table that mixes them.) Tables are left out: a call here takes the sheet.
@@ -22,6 +22,7 @@ OMAX = 86_399
 IDMAX = 2_147_483_647
 DAY = 86_400_000_000
 MINUTE = 60_000_000
+LOTS = 1_000
 TEXT = 16_384
 
 
@@ -188,8 +189,8 @@ def operate_alone(b):
 
 
 class Event:
-    def __init__(self, exit_, op, name):
-        self.exit, self.op, self.name, self.clauses = exit_, op, name, []
+    def __init__(self, exit_, op, name, lots=1):
+        self.exit, self.op, self.name, self.lots, self.clauses = exit_, op, name, lots, []
 
     def of(self, kind):
         return [c for c in self.clauses if c.kind == kind]
@@ -228,6 +229,30 @@ def first_line(sh, f):
     sh.evening = unsigned(f[7], 1_439) if len(f) == 8 else 0
 
 
+def read_lots(b):
+    """lots (02, W4): 1 to 10 digits, else 3; 1 to 1,000, else 18"""
+    if not digits(b, 1, 10):
+        raise Refused(3)
+    if not 1 <= int(b) <= LOTS:
+        raise Refused(18)
+    return int(b)
+
+
+def event_line(sh, f):
+    """an event: operate and name; an opening's lots may follow (02, W4), and without them they are 1"""
+    exit_ = f[0] == b"X"
+    if len(f) != 3 and (exit_ or len(f) != 4):
+        raise Refused(2)
+    if not exit_ and any(e.exit for e in sh.events):
+        raise Refused(2)
+    op = read_operate(f[1])
+    name = name_field(f[2])
+    lots = read_lots(f[3]) if len(f) == 4 else 1
+    if len(sh.events) == 32:
+        raise Refused(7)
+    sh.events.append(Event(exit_, op, name, lots))
+
+
 def read_sheet(text):
     check_text(text)
     ls = lines_of(text)
@@ -244,15 +269,7 @@ def read_sheet(text):
         if n == 0:
             first_line(sh, f)
         elif tag in (b"O", b"X"):
-            if len(f) != 3:
-                raise Refused(2)
-            if tag == b"O" and any(e.exit for e in sh.events):
-                raise Refused(2)
-            op = read_operate(f[1])
-            name = name_field(f[2])
-            if len(sh.events) == 32:
-                raise Refused(7)
-            sh.events.append(Event(tag == b"X", op, name))
+            event_line(sh, f)
         elif tag in (b"A", b"Y", b"N"):
             if len(f) != 2 or not sh.events:
                 raise Refused(2)
@@ -348,14 +365,14 @@ def time_ok(t):
 
 
 class Record:
-    def __init__(self, time, id_, price, op, pos, desc, event):
+    def __init__(self, time, id_, price, op, pos, desc, event, lots):
         self.time, self.id, self.price, self.op = time, id_, price, op
-        self.pos, self.desc, self.event = pos, desc, event
+        self.pos, self.desc, self.event, self.lots = pos, desc, event, lots
 
 
 class Hold:
-    def __init__(self, time, pos, price):
-        self.time, self.pos, self.price, self.yld = time, pos, price, None
+    def __init__(self, time, pos, price, lots):
+        self.time, self.pos, self.price, self.lots, self.yld = time, pos, price, lots, None
 
 
 class Ref:
@@ -364,8 +381,10 @@ class Ref:
 
 
 class State:
+    """the open lots (02, W4) are 0 where the position is Flat"""
+
     def __init__(self):
-        self.pos, self.changed = FLAT, 0
+        self.pos, self.changed, self.lots = FLAT, 0, 0
         self.end = self.lo = self.so = self.ref = None
         self.records, self.holds = [], []
 
@@ -384,9 +403,19 @@ def step(sh, st, bar, d):
     if op in (LO, SO):
         st.ref = Ref(bar, op, i)
 
-    def rec(o, desc):
-        st.records.append(Record(now, bar.id, bar.price, o, st.pos, desc, i if desc == 1 else 0))
+    def rec(o, desc, lots):
+        st.records.append(Record(now, bar.id, bar.price, o, st.pos, desc, i if desc == 1 else 0, lots))
         st.changed = 1
+
+    def opened(o, pos):
+        """lots are fixed here, also where the other side is left: its lots are in no record of this bar"""
+        st.pos, st.lots = pos, sh.events[i].lots
+        rec(o, 1, st.lots)
+
+    def closed(o, desc):
+        """the record carries the lots that were open"""
+        lots, st.pos, st.lots = st.lots, FLAT, 0
+        rec(o, desc, lots)
 
     def free(last):
         return sh.t0 == 1 or last is None or last.day(sh.evening) != now.day(sh.evening)
@@ -398,12 +427,10 @@ def step(sh, st, bar, d):
         last = getattr(st, own)
         allowed = last is None or seconds_between(last, now) > sh.interval
         if allowed and st.pos != pos:
-            st.pos = pos
             setattr(st, own, now)
-            rec(open_, 1)
+            opened(open_, pos)
         elif st.pos == other_pos and free(getattr(st, other)):
-            st.pos = FLAT
-            rec(close, 1)
+            closed(close, 1)
     price = of_bits(bar.price)
     limit = div(-stop_double(sh.stop), 10000.0)
     # steps 5 and 6
@@ -418,13 +445,12 @@ def step(sh, st, bar, d):
         elif bar.id - st.ref.bar.id > sh.timeout:
             why = 3
         if why:
-            st.pos = FLAT
-            rec(close, why)
+            closed(close, why)
     if st.holds:
         y = hold_yield(of_bits(st.holds[-1].price), price)
         if y is not None:
             st.holds[-1].yld = bits(y)
-    st.holds.append(Hold(now, st.pos, bar.price))
+    st.holds.append(Hold(now, st.pos, bar.price, st.lots))
     return i
 
 
@@ -475,12 +501,12 @@ def read_line(line):
 
 # ---------- book ----------
 def enc_hold(h):
-    return struct.pack("<qiBBBBQQ", h.time.instant, h.time.offset, h.pos, 0 if h.yld is None else 1, 0, 0,
+    return struct.pack("<qiBBHQQ", h.time.instant, h.time.offset, h.pos, 0 if h.yld is None else 1, h.lots,
                        h.price, 0 if h.yld is None else h.yld)
 
 
 def enc_record(r):
-    return struct.pack("<qiiQBBBBI", r.time.instant, r.time.offset, r.id, r.price, r.op, r.pos, r.desc, 0, r.event)
+    return struct.pack("<qiiQBBBBHH", r.time.instant, r.time.offset, r.id, r.price, r.op, r.pos, r.desc, 0, r.event, r.lots)
 
 
 def encode(st, c):
@@ -503,6 +529,10 @@ def encode(st, c):
 def book_len_ok(b):
     n = len(b) - 96
     return n % 64 == 0 and 1 <= n // 64 <= 1_000_000
+
+
+def u16(b, o):
+    return struct.unpack_from("<H", b, o)[0]
 
 
 def u32(b, o):
@@ -568,7 +598,7 @@ def hold_ok(b, o):
     """in range, absent yield zero; the yield itself may be NaN here"""
     if not time_ok(Time(i64(b, o), i32(b, o + 8))):
         return False
-    if b[o + 12] > 2 or b[o + 13] > 1 or b[o + 14] or b[o + 15]:
+    if b[o + 12] > 2 or b[o + 13] > 1 or u16(b, o + 14) > (0 if b[o + 12] == FLAT else LOTS):
         return False
     if not fin_bits(u64(b, o + 16)):
         return False
@@ -578,8 +608,8 @@ def hold_ok(b, o):
 def record_ok(b, o, events):
     if not time_ok(Time(i64(b, o), i32(b, o + 8))) or i32(b, o + 12) < 0 or not fin_bits(u64(b, o + 16)):
         return False
-    op, pos, desc, z, ev = b[o + 24], b[o + 25], b[o + 26], b[o + 27], u32(b, o + 28)
-    if op not in (LO, LE, SO, SE) or pos > 2 or desc not in (1, 2, 3) or z:
+    op, pos, desc, z, ev = b[o + 24], b[o + 25], b[o + 26], b[o + 27], u16(b, o + 28)
+    if op not in (LO, LE, SO, SE) or pos > 2 or desc not in (1, 2, 3) or z or u16(b, o + 30) > LOTS:
         return False
     return ev < events if desc == 1 else ev == 0
 
@@ -615,7 +645,7 @@ def full_ok(sh, b):
 
 # ---------- calls (the table is given as its sheet; its own numbers 8 and 9 apart) ----------
 def decode(b):
-    """the machine's state that a good book holds"""
+    """the machine's state that a good book holds; lots of 0 (02, W4) read as 1 in a record and in a hold with a position"""
     c = (len(b) - 96) // 64
     H, R = u32(b, 0), u32(b, 4)
     st = State()
@@ -630,14 +660,16 @@ def decode(b):
         st.ref = Ref(Bar(i32(b, 68), i64(b, 72), i32(b, 80), u64(b, 88)), b[29], u32(b, 84))
     for i in range(H):
         o = 96 + 32 * i
-        h = Hold(Time(i64(b, o), i32(b, o + 8)), b[o + 12], u64(b, o + 16))
+        lots = 0 if b[o + 12] == FLAT else u16(b, o + 14) or 1
+        h = Hold(Time(i64(b, o), i32(b, o + 8)), b[o + 12], u64(b, o + 16), lots)
         if b[o + 13]:
             h.yld = u64(b, o + 24)
         st.holds.append(h)
+        st.lots = lots
     for i in range(R):
         o = 96 + 32 * c + 32 * i
         st.records.append(Record(Time(i64(b, o), i32(b, o + 8)), i32(b, o + 12), u64(b, o + 16), b[o + 24], b[o + 25],
-                                 b[o + 26], u32(b, o + 28)))
+                                 b[o + 26], u16(b, o + 28), u16(b, o + 30) or 1))
     return st
 
 
@@ -751,7 +783,7 @@ def pair_rows(sh, st):
         days = bits(div(float(seconds_between(a.time, b.time)), 86400.0))
         seq = marked(desc_text(sh, a)) + b" -> " + marked(desc_text(sh, b))
         out.append(dict(symbol=sh.symbol, mark=sh.name, side=b"L" if a.op == LO else b"S", open=a.time.local(),
-                        close=b.time.local(), po=a.price, pc=b.price, gap=b.id - a.id, seq=seq, days=days, yld=y))
+                        close=b.time.local(), po=a.price, pc=b.price, gap=b.id - a.id, seq=seq, days=days, yld=y, lots=a.lots))
     return out
 
 
@@ -853,7 +885,7 @@ def run_(inp):
     st = decode(book)
     for r in pair_rows(sh, st):
         out += b"|".join([b"R", r["symbol"], r["mark"], r["side"], dec(r["open"]), dec(r["close"]), hex16(r["po"]),
-                          hex16(r["pc"]), dec(r["gap"]), r["seq"], hex16(r["days"]), hex16(r["yld"])]) + b"\n"
+                          hex16(r["pc"]), dec(r["gap"]), r["seq"], hex16(r["days"]), hex16(r["yld"]), dec(r["lots"])]) + b"\n"
     for h in hold_rows(st):
         out += b"|".join([b"H", dec(h["local"]), dec(h["pos"]), hex16(h["price"]), hex16(h["yld"])]) + b"\n"
     return out
@@ -872,7 +904,7 @@ S|d1_u_w|down_a_b_5
 """.encode()
 OUT1 = """F|0|1|1
 F|0|0|1
-R|M1|soy|L|0|86400000000|4059000000000000|405f400000000000|1|go@is_match -> out@is_match|3ff0000000000000|40a3880000000000
+R|M1|soy|L|0|86400000000|4059000000000000|405f400000000000|1|go@is_match -> out@is_match|3ff0000000000000|40a3880000000000|1
 H|0|1|4059000000000000|40a3880000000000
 H|86400000000|0|405f400000000000|-
 """.encode()
@@ -887,6 +919,8 @@ if __name__ == "__main__":
     moments = [evening - DAY - 1, evening - DAY, -1, 0, evening - 1, evening, DAY - 1, DAY]
     assert [Time(t, 0).day(0) for t in moments] == [-1, -1, -1, 0, 0, 0, 0, 1]
     assert [Time(t, 0).day(180) for t in moments] == [-1, 0, 0, 0, 0, 1, 1, 1]
+    said = read_sheet(b"P|soy|M1|0|5|100|1\nO|LO|a|5\nO|SO|b|0001000\nO|LO|c\nX|LO|d\n")
+    assert [e.lots for e in said.events] == [5, 1000, 1, 1]
     plain = read_sheet(b"P|soy|M1|0|5|100|0\n")
     one = feed(plain, fresh(bytes(160))[1], Bar(1, 0, 0, bits(1.0)), b"")[1]
     assert [hold_row(plain, one, i)[0] for i in (-1, 0, 1)] == [15, 0, 15]

@@ -43,12 +43,17 @@ class Book:
         return b"".join(self.words)
 
 
+def kind_of(e):
+    """the lots beyond 1 stand above the lowest bit, which says exit"""
+    return 2 * (e.lots - 1) + e.exit
+
+
 def table_of(sh):
     """the table of a sheet"""
     keys, values = Book(), Book()
     events, clauses, names, first = b"", b"", b"", 0
     for e in sh.events:
-        events += struct.pack("<6H", e.exit, e.op, len(names), len(e.name), first, len(e.clauses))
+        events += struct.pack("<6H", kind_of(e), e.op, len(names), len(e.name), first, len(e.clauses))
         names += e.name
         first += len(e.clauses)
         for c in e.clauses:
@@ -138,9 +143,9 @@ def read_table(t):
     first_use([x - 1 for r in clauses for x in r[2:5] if x != WILD], v)
     at, begin, names = 0, 0, section(5)
     for kind, op, a, length, first, count in rows(0, 6):
-        need(kind <= 1 and op <= 6 and length <= 256 and a == at and first == begin)
+        need((kind == 1 or kind % 2 == 0 and kind // 2 + 1 <= model.LOTS) and op <= 6 and length <= 256 and a == at and first == begin)
         at, begin = at + length, begin + count
-        ev = model.Event(kind == 1, op, names[a:at])
+        ev = model.Event(kind == 1, op, names[a:at], kind // 2 + 1)
         for ck, key, v1, v2, v3, score in clauses[first:begin]:
             texts = [ANY if x == WILD else values[x - 1] for x in (v1, v2, v3)]
             cl = model.Clause(KINDS[ck], [keys[key]], texts, score)
@@ -234,7 +239,7 @@ class Script:
 
 def shown(sh):
     """a sheet as plain values"""
-    events = [(e.exit, e.op, e.name, [(c.kind, c.key, c.vs, c.score) for c in e.clauses]) for e in sh.events]
+    events = [(e.exit, e.op, e.name, e.lots, [(c.kind, c.key, c.vs, c.score) for c in e.clauses]) for e in sh.events]
     return sh.name, sh.symbol, sh.interval, sh.timeout, sh.stop, sh.t0, sh.evening, events
 
 

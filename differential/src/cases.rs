@@ -94,9 +94,10 @@ fn double(bits: Option<u64>) -> String {
     bits.map_or("-".into(), |bits| format!("{bits:016x}"))
 }
 
+/// A pair's line. Its lots, which the Rust does not know, are 1: the stored set's sheets say none.
 fn pair_line(pair: &PairRow) -> String {
     format!(
-        "R|{}|{}|{}|{}|{}|{:016x}|{:016x}|{}|{}|{:016x}|{}\n",
+        "R|{}|{}|{}|{}|{}|{:016x}|{:016x}|{}|{}|{:016x}|{}|1\n",
         pair.symbol,
         pair.mark,
         if pair.side == 1 { 'L' } else { 'S' },

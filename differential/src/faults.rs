@@ -1,4 +1,4 @@
-//! Inputs of the run program with one fault, so that document 01 fixes the number that they are refused with.
+//! Inputs of the run program with one fault, so that document 01, or for lots document 02, fixes the number that they are refused with.
 
 use inputs::{
     Bar, EVENT_LIMIT, LAST_ID, LAST_INSTANT, LAST_OFFSET, LINE_LIMIT, NAME_LIMIT, Rng, Season,
@@ -28,7 +28,7 @@ const NOT_SEVEN_PARTS: [&str; 6] = ["", "a_b_c_d_e_5", "a_b_c_d_e_f_g_5", "_", "
 const NO_SCORES: [&str; 9] = ["101", "-1", "", "x", "+", "2147483648", "1.0", " 1", "５"];
 
 /// Lines at a sheet's end with a wrong tag, at a wrong place or with a wrong number of fields.
-const WRONG_IN_SHEET: [&str; 9] = [
+const WRONG_IN_SHEET: [&str; 11] = [
     "Q|x\n",
     "\n",
     "x|LE|n\n",
@@ -36,8 +36,10 @@ const WRONG_IN_SHEET: [&str; 9] = [
     "P|n|s|0|0|0|0\n",
     "X|LE\n",
     "X|LE|n|\n",
+    "X|LE|n|1\n",
     "X|LE|n\nA\n",
     "X|LE|n\nO|LO|n\n",
+    "X|LE|n\nO|LO|n|5\n",
 ];
 
 /// The same at the input's end; the first is not ended.
@@ -76,6 +78,18 @@ const NO_NUMBERS: [&str; 13] = [
     "00000000001",
     "99999999999",
 ];
+
+/// Lots outside 1 to 1,000, and texts that are no unsigned field.
+const PAST_THE_LOTS: [&str; 7] = [
+    "0",
+    "1001",
+    "0000000000",
+    "0000001001",
+    "65537",
+    "4294967297",
+    "9999999999",
+];
+const NO_LOTS: [&str; 9] = ["", "+1", "-1", "1.5", " 5", "5 ", "x", "五", "00000000005"];
 
 /// Malformed ids, instants, offsets and prices.
 const MALFORMED: [&[&str]; 4] = [
@@ -152,13 +166,15 @@ fn not_utf8_signal(rng: &mut Rng) -> Vec<u8> {
     [start.as_bytes(), *rng.pick(&NOT_UTF8), after.as_bytes()].concat()
 }
 
-/// A season's input that is refused with a number from 1 to 7, for one fault in its sheet or its lines.
+/// A season's input that is refused with a number from 1 to 7, or with 18, for one fault in its sheet or its lines.
 pub fn input(rng: &mut Rng, season: &Season, number: u32) -> Vec<u8> {
     match number {
         1 => return not_utf8_sheet(rng, season),
         2 => wrong_line(rng, season),
         3 if rng.once_in(2) => wrong_setting(rng, season),
+        3 if rng.once_in(3) => with_lots(rng, season, &NO_LOTS),
         3 => wrong_bar_field(rng, season),
+        18 => with_lots(rng, season, &PAST_THE_LOTS),
         4 => with_exit(season, &format!("X|{}|n\n", rng.pick(&NO_OPERATES))),
         5 => with_exit(
             season,
@@ -176,6 +192,14 @@ pub fn input(rng: &mut Rng, season: &Season, number: u32) -> Vec<u8> {
 /// The season's input with lines more at its sheet's end.
 fn with_exit(season: &Season, lines: &str) -> String {
     format!("{}{lines}-\n{}", season.sheet.text(), bars(season))
+}
+
+/// The season's input with an opening before its events, whose lots are one of these fields.
+fn with_lots(rng: &mut Rng, season: &Season, fields: &[&str]) -> String {
+    let text = season.text();
+    let (first, rest) = text.split_once('\n').expect("a sheet has a first line");
+    let operate = *rng.pick(&["LO", "开空", "LE", "HO"]);
+    format!("{first}\nO|{operate}|n|{}\n{rest}", rng.pick(fields))
 }
 
 fn bars(season: &Season) -> String {

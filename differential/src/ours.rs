@@ -95,6 +95,13 @@ impl Ours {
         }
     }
 
+    /// The open lots, which stand in the last hold; 0 where the position is flat, or there is no hold.
+    pub fn lots(&self) -> u16 {
+        let holds = i32_at(&self.book, 0) as usize;
+        let last = holds.checked_sub(1);
+        last.map_or(0, |index| u16_at(&self.book, 96 + 32 * index + 14))
+    }
+
     fn present(&self, at: usize) -> bool {
         self.book[at] == 1
     }
@@ -127,7 +134,7 @@ impl Ours {
             description: self.description(
                 operate,
                 self.book[at + 26].into(),
-                i32_at(&self.book, at + 28),
+                u16_at(&self.book, at + 28).into(),
             ),
         }
     }
@@ -210,6 +217,10 @@ fn text(bytes: &[u8]) -> String {
 
 fn pos(byte: u8) -> i32 {
     i32::from(byte) - 1
+}
+
+fn u16_at(book: &[u8], at: usize) -> u16 {
+    u16::from_le_bytes([book[at], book[at + 1]])
 }
 
 fn i32_at(book: &[u8], at: usize) -> i32 {

@@ -1,4 +1,4 @@
-//! Which rules of document 01 the inputs reach, counted bar by bar and row by row.
+//! Which rules of document 01 the inputs reach, and of document 02, W4, counted bar by bar and row by row.
 
 use crate::counts::Counts;
 use crate::shown::{Hold, PairRow, Shown};
@@ -7,13 +7,14 @@ use inputs::{Bar, Event, Sheet};
 use position_book::raw::{self, FeedAnswer};
 use reference::objects::position::{OperateRecord, Pos, PositionRuntimeState};
 
-/// An accepted bar, and the Rust's state before and after it.
+/// An accepted bar, the Rust's state before and after it, and the lots that were open before it on our side.
 pub struct Moment<'a> {
     pub sheet: &'a Sheet,
     pub bar: &'a Bar,
     pub answer: FeedAnswer,
     pub before: &'a PositionRuntimeState,
     pub after: &'a PositionRuntimeState,
+    pub lots: u16,
 }
 
 type Time = DateTime<FixedOffset>;
@@ -101,6 +102,37 @@ const OF_A_BAR: [BarRule; 31] = [
     }),
 ];
 
+/// Rules of lots, of which the Rust knows nothing: a sheet that says none reaches few of them.
+const OF_LOTS: [BarRule; 9] = [
+    ("opened with lots of its line", |m| {
+        m.is_opened() && m.event().is_some_and(|event| event.lots.is_some())
+    }),
+    ("opened with 1,000 lots", |m| {
+        m.is_opened() && m.event_lots() == Some(1_000)
+    }),
+    ("opened by an exit event with 1 lot", |m| {
+        m.is_opened() && m.event().is_some_and(|event| event.exit)
+    }),
+    ("opening with other lots on the side held", |m| {
+        m.opens() == Some(m.before.pos) && m.says_other_lots()
+    }),
+    ("reversed to other lots", |m| {
+        m.is_opened() && m.before.pos != Pos::Flat && m.says_other_lots()
+    }),
+    ("refused opening closes other lots", |m| {
+        m.is_interval_short() && m.record().is_some() && m.says_other_lots()
+    }),
+    ("several lots closed by an exit", |m| {
+        m.closes() == Some(m.before.pos) && !m.is_held() && m.lots > 1
+    }),
+    ("several lots closed by the stop", |m| {
+        m.answer.decision == 2 && m.lots > 1
+    }),
+    ("several lots closed by the timeout", |m| {
+        m.answer.decision == 3 && m.lots > 1
+    }),
+];
+
 const OF_A_PAIR: [PairRule; 15] = [
     ("pair long", |pair| pair.side == 1),
     ("pair short", |pair| pair.side == -1),
@@ -143,30 +175,33 @@ const OF_A_HOLD: [HoldRule; 3] = [
 /// A late bar after one that changed the position: changed stays.
 pub const LATE_AFTER_A_CHANGE: &str = "late bar after a change";
 
-/// The names of all rules.
-fn names() -> impl Iterator<Item = &'static str> {
+/// The names of all rules, of those of lots where they are asked for.
+fn names(with_lots: bool) -> impl Iterator<Item = &'static str> {
+    let lots = OF_LOTS.iter().filter(move |_| with_lots);
     let bars = OF_A_BAR
         .iter()
         .map(|rule| rule.0)
         .chain([LATE_AFTER_A_CHANGE]);
     let pairs = OF_A_PAIR.iter().map(|rule| rule.0);
-    bars.chain(pairs).chain(OF_A_HOLD.iter().map(|rule| rule.0))
+    let holds = OF_A_HOLD.iter().map(|rule| rule.0);
+    let lots = lots.map(|rule| rule.0);
+    bars.chain(pairs).chain(holds).chain(lots)
 }
 
 /// A line for each rule, with how often it was reached.
-pub fn lines(counts: &Counts) -> String {
-    names()
+pub fn lines(counts: &Counts, with_lots: bool) -> String {
+    names(with_lots)
         .map(|name| format!("{:>10}  {name}\n", counts.get(name)))
         .collect()
 }
 
 /// Whether some rule was not reached.
-pub fn is_one_missed(counts: &Counts) -> bool {
-    names().any(|name| counts.get(name) == 0)
+pub fn is_one_missed(counts: &Counts, with_lots: bool) -> bool {
+    names(with_lots).any(|name| counts.get(name) == 0)
 }
 
 pub fn count_bar(moment: &Moment, counts: &mut Counts) {
-    for (name, holds) in OF_A_BAR {
+    for (name, holds) in OF_A_BAR.into_iter().chain(OF_LOTS) {
         counts.add(name, usize::from(holds(moment)));
     }
 }
@@ -192,6 +227,30 @@ impl Moment<'_> {
     /// The event that decided the bar, if one did.
     fn event(&self) -> Option<&Event> {
         (self.answer.decision == 1).then(|| &self.sheet.events[self.answer.event as usize])
+    }
+
+    /// The lots that it opens with.
+    fn event_lots(&self) -> Option<i64> {
+        self.event().map(Event::opening_lots)
+    }
+
+    /// Whether they are other than the open ones.
+    fn says_other_lots(&self) -> bool {
+        self.event_lots() != Some(self.lots.into())
+    }
+
+    /// Whether the bar opened a side, from flat or from the other one.
+    fn is_opened(&self) -> bool {
+        self.after.pos != Pos::Flat && self.after.pos != self.before.pos
+    }
+
+    /// The lots that are open after the bar: those of the event that opened, else those before it.
+    pub fn lots_after(&self) -> i64 {
+        match self.after.pos {
+            Pos::Flat => 0,
+            _ if self.is_opened() => self.event_lots().unwrap_or(0),
+            _ => self.lots.into(),
+        }
     }
 
     /// The code of its operate.

@@ -62,6 +62,7 @@ impl Both<'_> {
 
     fn feed(&mut self, bar: &Bar, counts: &mut Counts) -> Result<(), String> {
         let (before, book) = (self.theirs.state(), self.ours.book.clone());
+        let lots = self.ours.lots();
         let answer = self.ours.feed(bar);
         self.theirs.feed(bar);
         let after = self.theirs.state();
@@ -82,8 +83,14 @@ impl Both<'_> {
             answer,
             before: &before,
             after: &after,
+            lots,
         };
         rules::count_bar(&moment, counts);
+        same(
+            "open lots",
+            &i64::from(self.ours.lots()),
+            &moment.lots_after(),
+        )?;
         self.same_reason(&moment)
     }
 

@@ -68,6 +68,7 @@ pub fn sheet(size: Size) -> Sheet {
             exit,
             operate: operate.to_string(),
             name: format!("{operate}#事件{e}"),
+            lots: None,
             clauses: (0..share)
                 .map(|c| clause(&mut rng, (e * share + c) % size.keys, c == 0))
                 .collect(),

@@ -34,9 +34,9 @@ static uint64_t bits(double x)
 static void print_yield(uint32_t present, double bp)
 {
     if (present)
-        printf("%016" PRIx64 "\n", bits(bp));
+        printf("%016" PRIx64, bits(bp));
     else
-        printf("-\n");
+        printf("-");
 }
 
 /* Feeds a bar, and prints its line. */
@@ -62,6 +62,7 @@ static void print_pairs(void)
         printf("|%016" PRIx64 "|%016" PRIx64 "|%" PRId64, bits(p.from), bits(p.to), p.ids);
         printf("|%.*s|%016" PRIx64 "|", (int)p.sequence, sequence, bits(p.days));
         print_yield(p.present, p.bp);
+        printf("|%" PRIu32 "\n", p.lots);
     }
 }
 
@@ -75,6 +76,7 @@ static void print_holds(void)
         done("hold_row", h.number);
         printf("H|%" PRId64 "|%" PRId32 "|%016" PRIx64 "|", h.local, h.pos, bits(h.price));
         print_yield(h.present, h.bp);
+        printf("\n");
     }
 }
 

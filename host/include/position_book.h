@@ -39,8 +39,8 @@ typedef struct {
     uint32_t event;
 } FeedAnswer;
 
-/* A pair row: 1 for L or -1 for S, both local times, both prices, the id difference, days, the yield where it is present, and the lengths
-   of symbol, mark and sequence. */
+/* A pair row: 1 for L or -1 for S, both local times, both prices, the id difference, days, the yield where it is present, the lengths
+   of symbol, mark and sequence, and the lots that were opened. */
 typedef struct {
     uint32_t number;
     int32_t side;
@@ -55,6 +55,7 @@ typedef struct {
     size_t symbol;
     size_t mark;
     size_t sequence;
+    uint32_t lots;
 } PairAnswer;
 
 /* A hold row: its local time, -1, 0 or 1, its price, and the yield where it is present. */
@@ -123,9 +124,9 @@ PairAnswer position_book_pair_row(const uint8_t *table, size_t table_length, con
 /* A hold row of the book by its index. */
 HoldAnswer position_book_hold_row(const uint8_t *table, size_t table_length, const uint8_t *book, size_t book_length, int64_t index);
 
-/* The pair rows from number first on, one after another from the start of rows on: as many as fit. A row is 88 bytes and its texts, all
+/* The pair rows from number first on, one after another from the start of rows on: as many as fit. A row is 96 bytes and its texts, all
    little-endian: i32 side, u32 yield present, i64 opened, i64 closed, double from, double to, i64 ids, double days, double bp, u64 lengths of
-   symbol, mark and sequence; then symbol, mark and sequence. The buffer must have room for a longest row, 2,136 bytes. */
+   symbol, mark and sequence, u64 lots; then symbol, mark and sequence. The buffer must have room for a longest row, 2,144 bytes. */
 BlockAnswer position_book_pair_rows(const uint8_t *table, size_t table_length, const uint8_t *book, size_t book_length, int64_t first, uint8_t *rows, size_t rows_length);
 
 /* The hold rows from number first on, in the same way. A row is 32 bytes: i64 local, i32 pos, u32 yield present, double price, double bp. */

@@ -14,7 +14,7 @@ pub const ROW_BUFFER: usize = 2_048;
 pub const HOLD_ROW: usize = 32;
 
 /// The most bytes of a pair row in a block: its numbers, and texts that fit a row buffer.
-pub const PAIR_ROW_LIMIT: usize = 88 + ROW_BUFFER;
+pub const PAIR_ROW_LIMIT: usize = 96 + ROW_BUFFER;
 
 /// The most bytes of an event's name.
 pub const NAME_LIMIT: usize = 256;
@@ -51,8 +51,8 @@ pub struct FeedAnswer {
     pub event: u32,
 }
 
-/// A pair row: 1 for L or -1 for S, both local times, both prices, the id difference, days, the yield where it is present, and the
-/// lengths of symbol, mark and sequence.
+/// A pair row: 1 for L or -1 for S, both local times, both prices, the id difference, days, the yield where it is present, the
+/// lengths of symbol, mark and sequence, and the lots that were opened.
 #[repr(C)]
 #[derive(Clone, Copy, Debug, PartialEq)]
 pub struct PairAnswer {
@@ -69,6 +69,7 @@ pub struct PairAnswer {
     pub symbol: usize,
     pub mark: usize,
     pub sequence: usize,
+    pub lots: u32,
 }
 
 /// A hold row: its local time, -1, 0 or 1, its price, and the yield where it is present.

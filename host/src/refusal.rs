@@ -53,10 +53,11 @@ refusals! {
     15 NoSuchRow: "there is no row with this index",
     16 WrongLine: "a line of the exchange's file departs from its form, or names no real day or time",
     17 LongPrice: "a price has more than 15 digits, or more than six after the point",
+    18 WrongLots: "lots are outside 1..1,000",
 }
 
 impl Refusal {
-    /// The number that the documents give it, 1 to 17, or the one that this host does not know.
+    /// The number that the documents give it, 1 to 18, or the one that this host does not know.
     ///
     /// ```
     /// use position_book::{Refusal, Table};
@@ -112,7 +113,7 @@ mod tests {
             assert_eq!(Refusal::from_number(number).unwrap().number(), number);
         }
         assert_eq!(Refusal::from_number(0), None);
-        assert_eq!(Refusal::from_number(17), Some(Refusal::LongPrice));
+        assert_eq!(Refusal::from_number(18), Some(Refusal::WrongLots));
     }
 
     #[test]

@@ -33,6 +33,8 @@ pub struct Pair {
     pub days: f64,
     /// The yield in basis points; none where it opened at a price of zero.
     pub bp: Option<f64>,
+    /// The lots that were opened.
+    pub lots: u32,
 }
 
 /// A bar that was held.
@@ -50,7 +52,7 @@ pub struct Hold {
 ///
 /// ```
 /// use position_book::{Bar, Book, Instant, Refusal, Side, Table};
-/// let table = Table::compile("P|soy|M1|0|1|100|1\nO|SO|down\nA|d_u_w_down_任意_任意_0\n")?;
+/// let table = Table::compile("P|soy|M1|0|1|100|1\nO|SO|down|5\nA|d_u_w_down_任意_任意_0\n")?;
 /// let mut book = Book::fresh(10)?;
 /// for (id, price) in [(1, 100.0), (2, 90.0), (3, 80.0)] {
 ///     let signals = if id == 1 { "d_u_w|down_a_b_5\n" } else { "" };
@@ -58,7 +60,7 @@ pub struct Hold {
 /// }
 /// let pairs: Vec<_> = book.pairs(&table)?.collect();
 /// assert_eq!((pairs.len(), pairs[0].side, pairs[0].bp), (1, Side::Short, Some(2000.0)));
-/// assert_eq!(pairs[0].sequence, "down@is_match -> 平空@1K超时");
+/// assert_eq!((pairs[0].sequence.as_str(), pairs[0].lots), ("down@is_match -> 平空@1K超时", 5));
 /// # Ok::<(), Refusal>(())
 /// ```
 pub struct Pairs<'a>(Blocks<'a>);
@@ -100,6 +102,7 @@ impl Iterator for Pairs<'_> {
             let (ids, days) = (whole(rest), double(rest));
             let bp = yielded(present, double(rest));
             let (symbol, mark, sequence) = (length(rest), length(rest), length(rest));
+            let lots = u64::from_le_bytes(bytes(rest)) as u32;
             Pair {
                 symbol: cut(rest, symbol),
                 mark: cut(rest, mark),
@@ -112,6 +115,7 @@ impl Iterator for Pairs<'_> {
                 ids,
                 days,
                 bp,
+                lots,
             }
         })
     }

@@ -20,6 +20,9 @@ impl Table {
     /// assert_eq!(Table::compile("O|LO|go\n"), Err(Refusal::Malformed));
     /// // The trading day opens at 21:00, 180 minutes before midnight.
     /// assert!(Table::compile("P|soy|M1|0|5|100|0|180\n").is_ok());
+    /// // It opens with 5 lots.
+    /// assert!(Table::compile("P|soy|M1|0|5|100|0\nO|LO|go|5\n").is_ok());
+    /// assert_eq!(Table::compile("P|soy|M1|0|5|100|0\nO|LO|go|0\n"), Err(Refusal::WrongLots));
     /// # Ok::<(), Refusal>(())
     /// ```
     pub fn compile(sheet: impl AsRef<[u8]>) -> Result<Table, Refusal> {
@@ -29,7 +32,7 @@ impl Table {
     }
 
     /// Takes a table that was stored: bytes that are no table are refused, and so is one of an earlier layout, whose
-    /// sheet must be compiled again. One from before sheets had an evening is taken, and means what it meant.
+    /// sheet must be compiled again. One from before sheets had an evening, or lots, is taken, and means what it meant.
     ///
     /// ```
     /// use position_book::{Refusal, Table};

@@ -2,10 +2,12 @@
 //!
 //! One of the former layout is none: every exported call that takes a table gives 9 for it and changes no byte, whatever
 //! its interval is. Its stop would be read as a hundredth of what was signed. One of this layout from before sheets had an
-//! evening is a table still, with the meaning that it had; where the evening now stands it has zeros.
+//! evening, or lots, is a table still, with the meaning that it had; where these now stand it has zeros.
 
+mod older;
 mod printed;
 
+use older::table as older;
 use position_book::{Refusal, Table, raw};
 use printed::{file, printed, season};
 
@@ -24,6 +26,17 @@ const WITHOUT_EVENING: [[&str; 3]; 2] = [
         "season-without-evening",
         "examples/season",
         "examples/season.out",
+    ],
+];
+
+/// Tables as they were compiled before openings had lots, in the same way: those above, and one with an evening.
+const WITHOUT_LOTS: [[&str; 3]; 3] = [
+    WITHOUT_EVENING[0],
+    WITHOUT_EVENING[1],
+    [
+        "evening-without-lots",
+        "examples/evening",
+        "examples/evening.out",
     ],
 ];
 
@@ -70,16 +83,6 @@ struct Lent {
     book: Vec<u8>,
     image: Vec<u8>,
     buffer: Vec<u8>,
-}
-
-/// A stored table: hexadecimal digits, remarks behind `#`, zeros up to the length of a table.
-fn older(name: &str) -> Vec<u8> {
-    let text = file(&format!("host/tests/older/{name}"));
-    let digits: String = text.lines().filter(|line| !line.starts_with('#')).collect();
-    let pair = |at: usize| u8::from_str_radix(&digits[at..at + 2], 16).unwrap();
-    let mut table: Vec<u8> = (0..digits.len()).step_by(2).map(pair).collect();
-    table.resize(raw::TABLE_LENGTH, 0);
-    table
 }
 
 /// A table of today, a book by it with two holds and a pair, an image and a row buffer.
@@ -165,9 +168,9 @@ fn compiled(sheet: &str) -> Vec<u8> {
 }
 
 #[test]
-fn every_call_takes_a_table_without_an_evening() {
+fn every_call_takes_a_table_without_an_evening_or_lots() {
     let mut lent = lent();
-    for [name, ..] in WITHOUT_EVENING {
+    for [name, ..] in WITHOUT_LOTS {
         lent.table = older(name);
         for call in CALLS {
             assert_eq!(number(call, &mut lent.clone()), 0, "{call}, {name}");
@@ -187,6 +190,52 @@ fn a_table_without_an_evening_means_what_it_meant() -> Result<(), Refusal> {
         assert_eq!(printed(&table, lines)?, file(output), "{name}");
     }
     Ok(())
+}
+
+#[test]
+fn a_table_without_lots_means_what_it_meant() -> Result<(), Refusal> {
+    for [name, input, output] in WITHOUT_LOTS {
+        let (table, input) = (older(name), file(input));
+        let (sheet, lines) = season(&input);
+        assert!(compiled(sheet) == table, "{name} is not its sheet's table");
+        let said = compiled(&with_lots(sheet, 1));
+        assert!(said == table, "{name} is not that of 1 lot");
+        let table = Table::from_bytes(&table)?;
+        assert_eq!(printed(&table, lines)?, file(output), "{name}");
+    }
+    Ok(())
+}
+
+/// A sheet whose openings all say so many lots.
+fn with_lots(sheet: &str, lots: u16) -> String {
+    let said = |line: &str| match line.strip_prefix("O|") {
+        Some(opening) => format!("O|{opening}|{lots}\n"),
+        None => format!("{line}\n"),
+    };
+    sheet.lines().map(said).collect()
+}
+
+/// With lots set in the kinds of its openings it is the table of the sheet with those third values.
+#[test]
+fn lots_fit_in_a_table_without_them() {
+    for [name, input, _] in WITHOUT_LOTS {
+        let (mut table, input) = (older(name), file(input));
+        let events = u32::from_le_bytes(table[20..24].try_into().unwrap()) as usize;
+        let kinds: Vec<usize> = (0..events).map(|event| 80 + 12 * event).collect();
+        let openings: Vec<usize> = kinds.into_iter().filter(|at| table[*at] == 0).collect();
+        let mut set = |lots: u16| {
+            for at in &openings {
+                table[*at..at + 2].copy_from_slice(&(2 * (lots - 1)).to_le_bytes());
+            }
+            table.clone()
+        };
+        for lots in 1..=1_000 {
+            let said = compiled(&with_lots(season(&input).0, lots));
+            assert!(said == set(lots), "{name}, {lots}");
+        }
+        let above = Table::from_bytes(&set(1_001));
+        assert_eq!(above, Err(Refusal::NotTable), "{name}");
+    }
 }
 
 /// With an evening set in its bytes it is the table of the sheet with that seventh value.

@@ -26,8 +26,8 @@ fn book_of(table: &Table, bars: i64) -> Result<Book, Refusal> {
 fn table() -> Result<Table, Refusal> {
     Table::compile(concat!(
         "P|豆粕套保|M2701|0|2|100|1\n",
-        "O|LO|开多#上行\nA|a_b_c_up_任意_任意_0\n",
-        "O|SO|SO#下行\nA|a_b_c_down_任意_任意_0\n",
+        "O|LO|开多#上行|1000\nA|a_b_c_up_任意_任意_0\n",
+        "O|SO|SO#下行|3\nA|a_b_c_down_任意_任意_0\n",
     ))
 }
 
@@ -58,6 +58,7 @@ fn pair(table: &Table, book: &Book, i: i64) -> Option<Pair> {
         ids: a.ids,
         days: a.days,
         bp: yielded(a.present, a.bp),
+        lots: a.lots,
     })
 }
 
@@ -89,6 +90,8 @@ fn blocks_have_the_single_rows() -> Result<(), Refusal> {
     let holds: Vec<Hold> = book.holds(&table)?.collect();
     assert_eq!(pairs.len(), book.count_pairs(&table)?);
     assert_eq!(holds.len(), book.len());
+    let lots = |side| if side == Side::Long { 1_000 } else { 3 };
+    assert!(pairs.iter().all(|pair| pair.lots == lots(pair.side)));
     for i in sample(pairs.len()) {
         assert_eq!(pair(&table, &book, i as i64).as_ref(), Some(&pairs[i]));
     }

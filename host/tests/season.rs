@@ -8,7 +8,7 @@ use printed::{bars, file, printed, season};
 
 #[test]
 fn the_seasons_are_printed_as_by_the_run_program() -> Result<(), Refusal> {
-    for name in ["season", "evening"] {
+    for name in ["season", "evening", "lots"] {
         let input = file(&format!("examples/{name}"));
         let (sheet, lines) = season(&input);
         let expected = file(&format!("examples/{name}.out"));

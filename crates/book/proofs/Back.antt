@@ -1,11 +1,13 @@
 -- What is written into a book is read back: a hold, a record, the header. Assumes nothing.
 use Prim.Native.Nat.{ℕ, _^_, _<_}
+use native.Mathlib.Omega.{arith}
 use mathlib.Core.Bool.{Bool, true, false}
 use mathlib.Core.List.{List, _++_}
-use mathlib.Core.Path.{_≡_, refl, ap}
+use mathlib.Core.Path.{_≡_, refl, sym, ap}
 use lib.Dec.{eqb}
+use borrow.Author.Tests.{ne-eqb}
 use Rattle.le.specs.Le.{part, leBytes, leNat}
-use Rattle.le.specs.Field.{u32, i32, i64, f64, put32, putI32, putI64, putF64}
+use Rattle.le.specs.Field.{u32, i32, i64, f64, put16, put32, putI32, putI64, putF64}
 use Rattle.le.proofs.Laws.{leNat-leBytes}
 use Rattle.le.proofs.Fields.{integer-back, double-back}
 use Rattle.double.specs.declared.Yield.{Yield}
@@ -13,6 +15,7 @@ use Rattle.double.specs.declared.Yield.the-variants.{Absent, Bp}
 use Rattle.bar.specs.declared.Time.{Time}
 use Rattle.bar.specs.declared.Bar.{Bar}
 use Rattle.position.specs.State.{posCode}
+use Rattle.position.specs.Step.{heldLots}
 use Rattle.position.specs.declared.Pos.{Pos}
 use Rattle.position.specs.declared.Pos.the-variants.{Short, Flat, Long}
 use Rattle.position.specs.declared.Open.{Open}
@@ -25,13 +28,20 @@ use Rattle.position.specs.declared.Description.{Description}
 use Rattle.position.specs.declared.Description.the-variants.{Event, Stop, Timeout}
 use Rattle.position.specs.declared.Record.{Record}
 use Rattle.position.specs.declared.Hold.{Hold}
-use Rattle.book.specs.Layout.{flag, openFlag, openTime, referenceFlag, referenceOperate, referenceBytes, headBytes, yieldFlag, yieldBytes, holdBytes, descriptionCode, descriptionEvent, recordBytes, timeAt, posAt, openAt, referenceAt, headOf, yieldAt, holdOf, descriptionAt, recordOf}
-use Rattle.book.proofs.Fits.{TimeIn, BarIn, YieldIn, HoldIn, DescriptionIn, RecordIn, OpenIn, ReferenceIn, HeadIn}
+use Rattle.book.specs.Layout.{flag, openFlag, openTime, referenceFlag, referenceOperate, referenceBytes, headBytes, yieldFlag, yieldBytes, holdBytes, descriptionCode, descriptionEvent, recordBytes, timeAt, posAt, openAt, referenceAt, headOf, yieldAt, readLots, holdOf, descriptionAt, recordOf}
+use Rattle.book.proofs.Fits.{TimeIn, BarIn, YieldIn, LotsIn, HeldIn, HoldIn, DescriptionIn, RecordIn, OpenIn, ReferenceIn, HeadIn}
 
 -- ---- fields
 
 number-is : (n : ℕ) → n < 2 ^ 32 → leNat (put32 n) ≡ n
 number-is n k = leNat-leBytes 4 n k
+
+half-is : (n : ℕ) → n < 2 ^ 16 → leNat (put16 n) ≡ n
+half-is n k = leNat-leBytes 2 n k
+
+-- lots that are not 0
+lots-is : (n : ℕ) → LotsIn n → readLots (leNat (put16 n)) ≡ n
+lots-is n h = rw (half-is n (h .1), ne-eqb n 0 (λ e. omega (arith, h .0)))
 
 -- a time by the bytes of its two fields
 again : Time → Time
@@ -65,10 +75,21 @@ unfolding part leBytes
 yield-is Absent h = refl
 yield-is (Bp x) h = ap Bp (double-back x h)
 
+held-is : (p : Pos) (n : ℕ) → HeldIn p n → heldLots (posAt (posCode p)) (readLots (leNat (put16 n))) ≡ n
+held-is Short n h = lots-is n h
+held-is Flat n h = sym h
+held-is Long n h = lots-is n h
+
 pub hold-back : (o : Hold) → HoldIn o → holdOf (holdBytes o) ≡ o
 unfolding holdOf holdBytes part leBytes again
 hold-back o h =
-    λ i. record { time = time-is (o .time) (h .time) i; pos = pos-is (o .pos) i; price = double-back (o .price) (h .price) i; n1b = yield-is (o .n1b) (h .n1b) i }
+    λ i. record {
+      time = time-is (o .time) (h .time) i;
+      pos = pos-is (o .pos) i;
+      price = double-back (o .price) (h .price) i;
+      n1b = yield-is (o .n1b) (h .n1b) i;
+      lots = held-is (o .pos) (o .lots) (h .lots) i;
+    }
 
 -- its yield alone
 pub yield-back : (o : Hold) → YieldIn (o .n1b) → holdOf (holdBytes o) .n1b ≡ o .n1b
@@ -77,15 +98,21 @@ yield-back o h = yield-is (o .n1b) h
 
 -- ---- a record
 
-description-is : (d : Description) → DescriptionIn d → descriptionAt (descriptionCode d) (leNat (put32 (descriptionEvent d))) ≡ d
-description-is (Event i) h = ap Event (number-is i h)
+description-is : (d : Description) → DescriptionIn d → descriptionAt (descriptionCode d) (leNat (put16 (descriptionEvent d))) ≡ d
+description-is (Event i) h = ap Event (half-is i h)
 description-is Stop h = refl
 description-is Timeout h = refl
 
 pub record-back : (r : Record) → RecordIn r → recordOf (recordBytes r) ≡ r
 unfolding recordOf recordBytes part leBytes again barAgain
 record-back r h =
-    λ i. record { bar = bar-is (r .bar) (h .bar) i; operate = r .operate; pos = pos-is (r .pos) i; description = description-is (r .description) (h .description) i }
+    λ i. record {
+      bar = bar-is (r .bar) (h .bar) i;
+      operate = r .operate;
+      pos = pos-is (r .pos) i;
+      description = description-is (r .description) (h .description) i;
+      lots = lots-is (r .lots) (h .lots) i;
+    }
 
 -- ---- the header
 

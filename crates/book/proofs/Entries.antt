@@ -1,6 +1,6 @@
 -- A sound hold and a sound record pass their checks in their bytes, and lists of them rise. Assumes nothing.
 use Prim.Native.Nat.{ℕ, _≤_}
-use mathlib.Core.Bool.{true, not}
+use mathlib.Core.Bool.{true, not, and-eq-true-iff}
 use mathlib.Core.List.{List, [], _∷_, map}
 use mathlib.Core.Path.{_≡_, refl, ap, _∙_}
 use mathlib.Mathlib.Data.List.Defs.{Forall}
@@ -11,7 +11,7 @@ use lib.Ieee.Scale.{finite}
 use lib.ListN.{length}
 use borrow.Author.Tests.{lt-ltb, le-leb}
 use Rattle.le.specs.Le.{part, leBytes, leNat}
-use Rattle.le.specs.Field.{u32, i64}
+use Rattle.le.specs.Field.{u16, i64, put16}
 use Rattle.le.proofs.Laws.{leNat-leBytes}
 use Rattle.le.proofs.Fields.{double-back}
 use Rattle.text.specs.Text.{same}
@@ -20,8 +20,9 @@ use Rattle.double.specs.declared.Yield.{Yield}
 use Rattle.double.specs.declared.Yield.the-variants.{Absent, Bp}
 use Rattle.bar.specs.Bar.{lastId, timeOk}
 use Rattle.bar.specs.declared.Time.{Time}
-use Rattle.sheet.specs.Sheet.{Sheet}
+use Rattle.sheet.specs.Sheet.{Sheet, lotsLimit, lotsOk}
 use Rattle.position.specs.State.{posCode}
+use Rattle.position.specs.Step.{heldLots}
 use Rattle.position.specs.declared.Pos.{Pos}
 use Rattle.position.specs.declared.Pos.the-variants.{Short, Flat, Long}
 use Rattle.position.specs.declared.Description.{Description}
@@ -29,12 +30,12 @@ use Rattle.position.specs.declared.Description.the-variants.{Event, Stop, Timeo
 use Rattle.position.specs.declared.Record.{Record}
 use Rattle.position.specs.declared.Hold.{Hold}
 use Rattle.position_laws.proofs.OneRecord.{Named}
-use Rattle.position_laws.proofs.Sound.{Rising, YieldOk, HoldOk, RecordOk, holdTime, recordTime}
-use Rattle.book.specs.Layout.{holdBytes, holdOf, yieldFlag, recordBytes, recordOf, descriptionCode, descriptionEvent}
+use Rattle.position_laws.proofs.Sound.{Rising, YieldOk, LotsFor, HoldOk, RecordOk, holdTime, recordTime}
+use Rattle.book.specs.Layout.{posAt, holdBytes, holdOf, yieldFlag, recordBytes, recordOf, descriptionCode, descriptionEvent}
 use Rattle.book.specs.Check.{storedYieldOk, holdOk, descriptionOk, recordOk, rising}
 use Rattle.book.proofs.Fits.{DescriptionIn}
 use Rattle.book.proofs.Back.{hold-back, record-back}
-use Rattle.book.proofs.Ranges.{hold-in, record-in}
+use Rattle.book.proofs.Ranges.{lots-in, hold-in, record-in}
 
 pub pos-low : (p : Pos) → leb (posCode p) 2 ≡ true
 pos-low Short = refl
@@ -43,11 +44,20 @@ pos-low Long = refl
 
 -- ---- a hold
 
-yield-passes : (t : Time) (p : Pos) (price : Float) (y : Yield) → YieldOk y
-    → storedYieldOk (holdBytes (record { time = t; pos = p; price = price; n1b = y })) (yieldFlag y) ≡ true
+yield-passes : (t : Time) (p : Pos) (price : Float) (y : Yield) (n : ℕ) → YieldOk y
+    → storedYieldOk (holdBytes (record { time = t; pos = p; price = price; n1b = y; lots = n })) (yieldFlag y) ≡ true
 unfolding holdBytes part leBytes same
-yield-passes t p price Absent h = refl
-yield-passes t p price (Bp x) h = ap (λ (z : Float). not (isNan z)) (double-back x (h .1)) ∙ ap not (h .0)
+yield-passes t p price Absent n h = refl
+yield-passes t p price (Bp x) n h = ap (λ (z : Float). not (isNan z)) (double-back x (h .1)) ∙ ap not (h .0)
+
+lots-pass : (n : ℕ) → lotsOk n ≡ true → leb (leNat (put16 n)) lotsLimit ≡ true
+lots-pass n h = rw (leNat-leBytes 2 n (lots-in n h .1)) (and-eq-true-iff (leb 1 n) (leb n lotsLimit) .0 h .1)
+
+held-pass : (p : Pos) (n : ℕ) → LotsFor p n → leb (leNat (put16 n)) (heldLots (posAt (posCode p)) lotsLimit) ≡ true
+unfolding leBytes leNat
+held-pass Short n h = lots-pass n h
+held-pass Flat n h = rw h refl
+held-pass Long n h = lots-pass n h
 
 pub hold-passes : (o : Hold) → HoldOk o → holdOk (holdBytes o) ≡ true
 unfolding holdOk holdBytes holdOf part leBytes same
@@ -56,17 +66,17 @@ hold-passes o h =
     sure
     (ap (λ (x : Hold). timeOk (x .time)) back ∙ h .time
     also pos-low (o .pos)
-    also yield-passes (o .time) (o .pos) (o .price) (o .n1b) (h .n1b)
-    also refl
+    also yield-passes (o .time) (o .pos) (o .price) (o .n1b) (o .lots) (h .n1b)
+    also held-pass (o .pos) (o .lots) (h .lots)
     also ap (λ (x : Hold). finite (x .price)) back ∙ h .price
     also none-left)
 
 -- ---- a record
 
 description-passes : (s : Sheet) (d : Description) → DescriptionIn d → Named s d
-    → descriptionOk (length (s .events)) (descriptionCode d) (u32 (leBytes 4 (descriptionEvent d)) 0) ≡ true
+    → descriptionOk (length (s .events)) (descriptionCode d) (u16 (put16 (descriptionEvent d)) 0) ≡ true
 unfolding part leBytes leNat
-description-passes s (Event i) h k = ap (λ (n : ℕ). ltb n (length (s .events))) (leNat-leBytes 4 i h) ∙ lt-ltb i (length (s .events)) k
+description-passes s (Event i) h k = ap (λ (n : ℕ). ltb n (length (s .events))) (leNat-leBytes 2 i h) ∙ lt-ltb i (length (s .events)) k
 description-passes s Stop h k = refl
 description-passes s Timeout h k = refl
 
@@ -83,6 +93,7 @@ record-passes s r few h =
     also pos-low (r .pos)
     also description-passes s (r .description) (fits .description) (h .named)
     also refl
+    also lots-pass (r .lots) (h .lots)
     also none-left)
 
 -- ---- a list of them: "instants strictly rising"

@@ -16,8 +16,9 @@ use Rattle.position.specs.declared.Reference.the-variants as Reference
 use Rattle.position.specs.declared.Head.{Head}
 use Rattle.position.specs.declared.Description.the-variants.{Event, Stop}
 use Rattle.position.specs.declared.Hold.{Hold}
-use Rattle.book.specs.Layout.{headBytes, holdBytes, recordBytes, encode, freshBook}
-use Rattle.book.specs.Check.{headerOk}
+use Rattle.book.specs.Layout.{headBytes, holdBytes, recordBytes, recordOf, encode, freshBook}
+use Rattle.book.specs.Check.{recordOk, headerOk}
+use Rattle.book.specs.Calls.{openLotsIn}
 use Rattle.book.proofs.Opened.{opened}
 
 abbrev at : ℤ → ℤ → Time
@@ -54,32 +55,32 @@ fresh-damaged = (refl, refl, refl)
 
 -- ---- a hold, a record, a header with every field
 
--- the last instant, five hours west, Long, at 101.5 with a yield of -250 basis points
-hold-bytes : holdBytes (record { time = at (pos 4_102_444_799_999_999) (negsuc 17_999); pos = Long; price = ofBits binary64 0x4059600000000000; n1b = Bp (ofBits binary64 0xc06f400000000000) })
+-- the last instant, five hours west, Long with 515 lots, at 101.5 with a yield of -250 basis points
+hold-bytes : holdBytes (record { time = at (pos 4_102_444_799_999_999) (negsuc 17_999); pos = Long; price = ofBits binary64 0x4059600000000000; n1b = Bp (ofBits binary64 0xc06f400000000000); lots = 515 })
     ≡ 255 ∷ 191 ∷ 3 ∷ 221 ∷ 38 ∷ 147 ∷ 14 ∷ 0
     ∷ 176 ∷ 185 ∷ 255 ∷ 255
-    ∷ 2 ∷ 1 ∷ 0 ∷ 0
+    ∷ 2 ∷ 1 ∷ 3 ∷ 2
     ∷ 0 ∷ 0 ∷ 0 ∷ 0 ∷ 0 ∷ 96 ∷ 89 ∷ 64
     ∷ 0 ∷ 0 ∷ 0 ∷ 0 ∷ 0 ∷ 64 ∷ 111 ∷ 192
     ∷ []
 unfolding opened
 hold-bytes = refl
 
--- the first instant, the least offset, the last id, at 99.75, LE, Flat, by event 258
-record-bytes : recordBytes (record { bar = record { id = 2_147_483_647; time = at (pos 0) (negsuc 86_398); price = ofBits binary64 0x4058f00000000000 }; operate = LE; pos = Flat; description = Event 258 })
+-- the first instant, the least offset, the last id, at 99.75, LE, Flat, by event 258, of 772 lots
+record-bytes : recordBytes (record { bar = record { id = 2_147_483_647; time = at (pos 0) (negsuc 86_398); price = ofBits binary64 0x4058f00000000000 }; operate = LE; pos = Flat; description = Event 258; lots = 772 })
     ≡ 0 ∷ 0 ∷ 0 ∷ 0 ∷ 0 ∷ 0 ∷ 0 ∷ 0
     ∷ 129 ∷ 174 ∷ 254 ∷ 255
     ∷ 255 ∷ 255 ∷ 255 ∷ 127
     ∷ 0 ∷ 0 ∷ 0 ∷ 0 ∷ 0 ∷ 240 ∷ 88 ∷ 64
     ∷ 4 ∷ 1 ∷ 1 ∷ 0
-    ∷ 2 ∷ 1 ∷ 0 ∷ 0
+    ∷ 2 ∷ 1 ∷ 4 ∷ 3
     ∷ []
 unfolding opened
 record-bytes = refl
 
 -- a stop has no event index
-stop-bytes : part (recordBytes (record { bar = record { id = 1; time = at (pos 0) (pos 0); price = ofBits binary64 0 }; operate = LE; pos = Flat; description = Stop })) 24 8
-    ≡ 4 ∷ 1 ∷ 2 ∷ 0 ∷ 0 ∷ 0 ∷ 0 ∷ 0 ∷ []
+stop-bytes : part (recordBytes (record { bar = record { id = 1; time = at (pos 0) (pos 0); price = ofBits binary64 0 }; operate = LE; pos = Flat; description = Stop; lots = 1 })) 24 8
+    ≡ 4 ∷ 1 ∷ 2 ∷ 0 ∷ 0 ∷ 0 ∷ 1 ∷ 0 ∷ []
 unfolding opened
 stop-bytes = refl
 
@@ -119,7 +120,7 @@ head-bytes = refl
 -- ---- a book of one bar
 
 last : Hold
-last = record { time = end; pos = Long; price = ofBits binary64 0x4059600000000000; n1b = Absent }
+last = record { time = end; pos = Long; price = ofBits binary64 0x4059600000000000; n1b = Absent; lots = 5 }
 
 used : List ℕ
 used = encode 2 (record { head = head; records = []; holds = last ∷ [] })
@@ -135,3 +136,28 @@ used-damaged : (headerOk 2 (patch used 32 (65 ∷ [])) ≡ false)
     × (headerOk 2 (patch used 24 (3 ∷ [])) ≡ false)
 unfolding opened used head last end
 used-damaged = (refl, refl, refl, refl)
+
+-- ---- lots
+
+-- those of the last hold; 0 is read as 1, as in a book from before them; 1,000 pass and 1,001 do not
+open-lots : (openLotsIn used ≡ 5) × (openLotsIn (patch used 110 (0 ∷ 0 ∷ [])) ≡ 1) × (headerOk 2 (patch used 110 (0 ∷ 0 ∷ [])) ≡ true)
+    × (headerOk 2 (patch used 110 (232 ∷ 3 ∷ [])) ≡ true) × (headerOk 2 (patch used 110 (233 ∷ 3 ∷ [])) ≡ false)
+unfolding opened used head last end
+open-lots = (refl, refl, refl, refl, refl)
+
+-- Flat has none: 0 passes, 5 do not
+flat : List ℕ
+flat = patch (patch used 24 (1 ∷ [])) 108 (1 ∷ [])
+
+flat-lots : (headerOk 2 (patch flat 110 (0 ∷ 0 ∷ [])) ≡ true) × (headerOk 2 flat ≡ false) × (openLotsIn (patch flat 110 (0 ∷ 0 ∷ [])) ≡ 0)
+unfolding opened used head last end flat
+flat-lots = (refl, refl, refl)
+
+-- a record's: 0 is read as 1; 1,000 pass and 1,001 do not; no event but those of the table, by two bytes
+closed : List ℕ
+closed = recordBytes (record { bar = record { id = 1; time = end; price = ofBits binary64 0 }; operate = LE; pos = Flat; description = Event 3; lots = 1_000 })
+
+record-lots : (recordOf closed .lots ≡ 1_000) × (recordOf (patch closed 30 (0 ∷ 0 ∷ [])) .lots ≡ 1) × (recordOk 4 closed ≡ true)
+    × (recordOk 4 (patch closed 30 (0 ∷ 0 ∷ [])) ≡ true) × (recordOk 4 (patch closed 30 (233 ∷ 3 ∷ [])) ≡ false) × (recordOk 4 (patch closed 29 (1 ∷ [])) ≡ false)
+unfolding opened closed end
+record-lots = (refl, refl, refl, refl, refl, refl)

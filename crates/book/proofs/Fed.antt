@@ -24,7 +24,7 @@ use Rattle.position_laws.proofs.OneRecord.{one-record}
 use Rattle.position_laws.proofs.Reach.{admitted-got}
 use Rattle.book.specs.Layout.{capacity, headBytes, headOf, holdBytes, holdOf, recordsBytes, holdPlace, recordPlace}
 use Rattle.book.specs.Check.{countsOk, headerOk}
-use Rattle.book.specs.Calls.{sized, settled, fed, feedOn, feedDo, feedLineDo}
+use Rattle.book.specs.Calls.{sized, openLotsIn, settled, fed, feedOn, feedDo, feedLineDo}
 use Rattle.book.proofs.Lengths.{head-length, hold-length, records-length, capacity-range}
 
 -- ---- the bytes
@@ -40,7 +40,7 @@ module _ (c : ℕ) (bar : Bar) (g : Going) (b : List ℕ) (long : length b ≡ 9
   settledBytes = holdBytes (settle bar (holdOf (part b last 32)))
 
   abbrev addedBytes : List ℕ
-  addedBytes = holdBytes (newHold bar (g .head))
+  addedBytes = holdBytes (newHold bar g)
 
   abbrev recorded : List ℕ
   recorded = recordsBytes (g .wrote)
@@ -70,7 +70,7 @@ module _ (c : ℕ) (bar : Bar) (g : Going) (b : List ℕ) (long : length b ≡ 9
       go false = length-patch b last settledBytes in0
 
   in1 : holdPlace hs + length addedBytes ≤ length b0
-  in1 = omega (arith, hold-length (newHold bar (g .head)), size0)
+  in1 = omega (arith, hold-length (newHold bar g), size0)
 
   size1 : length b1 ≡ length b
   size1 = length-patch b0 (holdPlace hs) addedBytes in1 ∙ size0
@@ -140,8 +140,8 @@ took t b i a e =
     let f = bar .0 in
     let admitted = admitted-got c (u32 b 0) (headOf b .end) i f (bar .1) in
     let space = admitted .2 in
-    let g = stepHead (means .0) (f .bar) (f .signals) (headOf b) in
-    let one = one-record (means .0) (f .bar) (f .signals) (headOf b) in
+    let g = stepHead (means .0) (f .bar) (f .signals) (openLotsIn b) (headOf b) in
+    let one = one-record (means .0) (f .bar) (f .signals) (openLotsIn b) (headOf b) in
     let less = records-first c b (header .0) in
     record {
       c = c;

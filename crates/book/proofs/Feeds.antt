@@ -10,7 +10,7 @@ use borrow.Author.Tests.{eq-eqb}
 use Rattle.text.specs.Answer.{Answer, Refused, Got, _>>=_}
 use Rattle.sheet.specs.Sheet.{Sheet}
 use Rattle.position.specs.State.{State}
-use Rattle.position.specs.Step.{Going, Fed, stepHead, step}
+use Rattle.position.specs.Step.{Going, Fed, stepHead, openLots, step}
 use Rattle.position.specs.Feed.{Input, lineInput, admitted, Accepted, reported, reportOf, feedState}
 use Rattle.position.specs.declared.Report.{Report}
 use Rattle.position_laws.proofs.OneRecord.{one-record}
@@ -23,6 +23,7 @@ use Rattle.book.specs.Calls.{fed, feedOn, feedDo, feedLineDo}
 use Rattle.book.proofs.Fits.{HoldIn, HeadIn}
 use Rattle.book.proofs.Lengths.{capacity-is}
 use Rattle.book.proofs.Parts.{holds-count, head-read}
+use Rattle.book.proofs.Last.{lots-read}
 use Rattle.book.proofs.Link.{fed-is}
 
 -- ---- a feed
@@ -57,11 +58,12 @@ feeds-on table s c st input r =
       r .checked,
       holds-count c st (omega arith),
       head-read c st (r .head),
+      lots-read c st (omega arith) (r .fits),
     )
     (reached input)
   where
     after : Fed → Going
-    after f = stepHead s (f .bar) (f .signals) (st .head)
+    after f = stepHead s (f .bar) (f .signals) (openLots (st .holds)) (st .head)
 
     admits : Input → Answer Fed
     admits i = admitted c (length (st .holds)) (st .head .end) i
@@ -70,7 +72,7 @@ feeds-on table s c st input r =
     accepts f = accepted (fed c (f .bar) (after f) (encode c st)) (reported s (f .signals) (after f))
 
     steps : Fed → Answer (Accepted State)
-    steps f = accepted (step s (f .bar) (f .signals) st) (reportOf s f (st .head))
+    steps f = accepted (step s (f .bar) (f .signals) st) (reportOf s f st)
 
     encodes : Accepted State → Answer (Accepted (List ℕ))
     encodes x = accepted (encode c (x .after)) (x .report)
@@ -81,7 +83,7 @@ feeds-on table s c st input r =
         let most = r .most in
         let less = r .records in
         let space = admitted-got c (length (st .holds)) (st .head .end) i f e .2 in
-        let few = one-record s (f .bar) (f .signals) (st .head) in
+        let few = one-record s (f .bar) (f .signals) (openLots (st .holds)) (st .head) in
         ap (λ (l : List ℕ). accepted l (reported s (f .signals) (after f))) (fed-is c (f .bar) (after f) st (omega arith) space (omega arith) (r .fits))
 
     reached : (x : Answer Input) → (x >>= λ i. admits i >>= accepts) ≡ (x >>= λ i. admits i >>= steps >>= encodes)

@@ -1,5 +1,7 @@
--- What the bytes of a book can hold: instants of 64 bits, offsets, ids and event indexes of 32, and doubles. Assumes nothing.
-use Prim.Native.Nat.{_^_, _<_}
+-- What the bytes of a book can hold: instants of 64 bits, offsets and ids of 32, a record's event index and lots of 16, and doubles. Assumes
+-- nothing.
+use Prim.Native.Nat.{ℕ, _^_, _<_}
+use mathlib.Core.Path.{_≡_}
 use lib.Dec.{T}
 use lib.Signed.{mag}
 use lib.Ieee.{binary64, fits}
@@ -7,6 +9,8 @@ use Rattle.double.specs.declared.Yield.{Yield}
 use Rattle.double.specs.declared.Yield.the-variants.{Absent, Bp}
 use Rattle.bar.specs.declared.Time.{Time}
 use Rattle.bar.specs.declared.Bar.{Bar}
+use Rattle.position.specs.declared.Pos.{Pos}
+use Rattle.position.specs.declared.Pos.the-variants.{Short, Flat, Long}
 use Rattle.position.specs.declared.Open.{Open}
 use Rattle.position.specs.declared.Open.the-variants as Open
 use Rattle.position.specs.declared.LastEvent.{LastEvent}
@@ -31,19 +35,30 @@ abbrev pub YieldIn : Yield → Type 0
 YieldIn Absent = Unit {0}
 YieldIn (Bp x) = T (fits binary64 x)
 
+-- lots that are read as they were written: 0 would be read as 1
+abbrev pub LotsIn : ℕ → Type 0
+LotsIn n = (0 < n) × (n < 2 ^ 16)
+
+abbrev pub HeldIn : Pos → ℕ → Type 0
+HeldIn Short n = LotsIn n
+HeldIn Flat n = n ≡ 0
+HeldIn Long n = LotsIn n
+
 pub record HoldIn (o : Hold) : Type 0 where
   pub time : TimeIn (o .time)
   pub price : T (fits binary64 (o .price))
   pub n1b : YieldIn (o .n1b)
+  pub lots : HeldIn (o .pos) (o .lots)
 
 abbrev pub DescriptionIn : Description → Type 0
-DescriptionIn (Event i) = i < 2 ^ 32
+DescriptionIn (Event i) = i < 2 ^ 16
 DescriptionIn Stop = Unit {0}
 DescriptionIn Timeout = Unit {0}
 
 pub record RecordIn (r : Record) : Type 0 where
   pub bar : BarIn (r .bar)
   pub description : DescriptionIn (r .description)
+  pub lots : LotsIn (r .lots)
 
 abbrev pub OpenIn : Open → Type 0
 OpenIn Open.Never = Unit {0}

@@ -5,6 +5,7 @@ pub mod Items
 pub mod Lengths
 pub mod Parts
 pub mod Slots
+pub mod Last
 pub mod Settled
 pub mod Link
 pub mod Feeds

@@ -67,7 +67,7 @@ module _ (hd : List ℕ) (long : length hd ≡ 96) where
 
 -- the state after a bar that went so
 abbrev pub next : Bar → Going → State → State
-next bar g st = record { head = g .head; records = st .records ++ g .wrote; holds = settleLast bar (st .holds) ++ newHold bar (g .head) ∷ [] }
+next bar g st = record { head = g .head; records = st .records ++ g .wrote; holds = settleLast bar (st .holds) ++ newHold bar g ∷ [] }
 
 pub fed-is : (c : ℕ) (bar : Bar) (g : Going) (st : State) → c < 2 ^ 32 → length (st .holds) < c → length (st .records) + length (g .wrote) ≤ c → Forall HoldIn (st .holds)
     → fed c bar g (encode c st) ≡ encode c (next bar g st)
@@ -77,7 +77,7 @@ fed-is c bar g st small room few fits =
     let rs = st .records in
     let ws = g .wrote in
     let old = settleLast bar os in
-    let o = newHold bar (g .head) in
+    let o = newHold bar g in
     let hd = header c st in
     let n = 32 * (c - (length os + 1)) in
     let m = 32 * (c - (length rs + length ws)) in

@@ -1,12 +1,12 @@
 -- The book of a sound state, with room for it, passes the header check and the full check. Assumes nothing.
-use Prim.Native.Nat.{ℕ, suc, _-_, _*_, _+_, _^_, _≤_, _<_}
+use Prim.Native.Nat.{ℕ, _-_, _^_, _≤_, _<_}
 use native.Mathlib.Omega.{arith}
 use mathlib.Core.Bool.{true, _||_}
-use mathlib.Core.List.{List, [], _∷_, _++_}
+use mathlib.Core.List.{List, []}
 use mathlib.Core.Logic.{_⊎_, inl, inr}
 use mathlib.Core.Path.{_≡_, refl, sym, ap, _∙_, subst}
 use lib.Dec.{ltb, eqb, eqb·suc-zero}
-use lib.ListN.{length, length-append}
+use lib.ListN.{length}
 use Rattle.le.specs.Le.{part}
 use Rattle.le.specs.Field.{u8, u32}
 use Rattle.le.proofs.Places.{part-mid}
@@ -15,15 +15,15 @@ use Rattle.text.proofs.Conditions.{none-left, _also_, sure, every-sure}
 use Rattle.text.proofs.Same.{same-refl}
 use Rattle.sheet.specs.Sheet.{Sheet}
 use Rattle.position.specs.State.{State, freshHead, freshState}
-use Rattle.position.specs.declared.Hold.{Hold}
 use Rattle.position_laws.proofs.Sound.{HoldOk, Ends, Sound}
-use Rattle.book.specs.Layout.{barLimit, headBytes, holdBytes, holdsBytes, recordBytes, encode, holdPlace}
+use Rattle.book.specs.Layout.{barLimit, headBytes, holdBytes, recordBytes, encode, holdPlace}
 use Rattle.book.specs.Check.{holdOk, recordOk, countsOk, lastOk, usedOk, headerOk, rising, fullOk}
 use Rattle.book.proofs.Fits.{HeadIn}
 use Rattle.book.proofs.Back.{holds-back}
-use Rattle.book.proofs.Items.{items-last, item-at, forall-last}
-use Rattle.book.proofs.Lengths.{head-length, holds-written}
-use Rattle.book.proofs.Parts.{behind, by-holds, header, holdsLeft, recordsLeft, encode-is, rest, from-head, holds-count}
+use Rattle.book.proofs.Items.{forall-last}
+use Rattle.book.proofs.Lengths.{head-length}
+use Rattle.book.proofs.Last.{last-count, last-slot}
+use Rattle.book.proofs.Parts.{rest, from-head}
 use Rattle.book.proofs.Slots.{hold-slots, record-slots}
 use Rattle.book.proofs.Ranges.{head-in}
 use Rattle.book.proofs.Entries.{hold-passes, record-passes, holds-rise, records-rise}
@@ -67,28 +67,12 @@ module _ (s : Sheet) (c : ℕ) (st : State) (sound : Sound s st) (room : Room s 
   records-small = omega (arith, holds-small, sound .few)
 
   module _ (ends : Ends st) where
-    count : u32 (encode c st) 0 ≡ suc (length (ends .front))
-    count = holds-count c st holds-small ∙ ap (λ (os : List Hold). length os) (ends .whole) ∙ omega (arith, length-append (ends .front) (ends .last ∷ []))
-
-    last-slot : part (encode c st) (holdPlace (u32 (encode c st) 0 - 1)) 32 ≡ holdBytes (ends .last)
-    last-slot =
-        let hd = header c st in
-        let q = behind (holdsLeft c st) (st .records) (recordsLeft c st) in
-        let n = length (ends .front) in
-        let less : suc n - 1 ≡ n = omega arith in
-        let place : length hd + 32 * n ≡ holdPlace n = omega (arith, head-length c hs rs (st .head)) in
-        let whole : encode c st ≡ hd ++ holdsBytes (ends .front) ++ (holdBytes (ends .last) ++ q) =
-        encode-is c st ∙ by-holds hd (st .holds) (holdsLeft c st) (st .records) (recordsLeft c st)
-        ∙ ap (λ (os : List Hold). hd ++ holdsBytes os ++ q) (ends .whole) ∙ items-last holds-written hd (ends .front) (ends .last) q
-        in
-        rw (count, less, whole) (item-at holds-written hd (ends .front) (holdPlace n) place (ends .last) q)
-
     last-ok : HoldOk (ends .last)
     last-ok = forall-last HoldOk (st .holds) (ends .front) (ends .last) (ends .whole) (sound .holds)
 
     last-fine : lastOk (encode c st) (part (encode c st) (holdPlace (u32 (encode c st) 0 - 1)) 32) ≡ true
     last-fine =
-        ap (λ (o : List ℕ). lastOk (encode c st) o) last-slot
+        ap (λ (o : List ℕ). lastOk (encode c st) o) (last-slot c st holds-small (ends .front) (ends .last) (ends .whole))
         ∙ rw (from-head c st) (last-passes c hs rs (st .head) (rest c st) (ends .last) last-ok (ends .time) (ends .pos) (ends .n1b))
 
     used-fine : usedOk (encode c st) ≡ true
@@ -101,7 +85,7 @@ module _ (s : Sheet) (c : ℕ) (st : State) (sound : Sound s st) (room : Room s 
     unfolding headerOk
     ended-passes =
         let counts : countsOk c (encode c st) ≡ true = rw (from-head c st) (counts-pass c hs rs (st .head) (rest c st) (room .most) (sound .few) (room .holds)) in
-        rw (counts, count, eqb·suc-zero (length (ends .front))) used-fine
+        rw (counts, last-count c st holds-small (ends .front) (ends .last) (ends .whole), eqb·suc-zero (length (ends .front))) used-fine
 
   pub header-passes : headerOk c (encode c st) ≡ true
   header-passes = go (sound .ends)

@@ -1,8 +1,9 @@
 -- What is sound fits the bytes of a book: times, bars, yields, holds, records, the head. Assumes nothing.
-use Prim.Native.Nat.{_^_, _≤_, _<_}
+use Prim.Native.Nat.{ℕ, _^_, _≤_, _<_}
 use native.Mathlib.Omega.{arith}
 use mathlib.Core.Bool.{true, and-eq-true-iff, false≢true}
 use mathlib.Core.Path.{_≡_}
+use lib.Dec.{leb}
 use lib.IntN.{ℤ, pos, negsuc}
 use lib.ListN.{length}
 use lib.Signed.{mag, leZ}
@@ -12,7 +13,9 @@ use Rattle.double.specs.declared.Yield.the-variants.{Absent, Bp}
 use Rattle.bar.specs.Bar.{lastInstant, instantOk, offsetOk, timeOk}
 use Rattle.bar.specs.declared.Time.{Time}
 use Rattle.bar.specs.declared.Bar.{Bar}
-use Rattle.sheet.specs.Sheet.{Sheet}
+use Rattle.sheet.specs.Sheet.{Sheet, lotsLimit, lotsOk}
+use Rattle.position.specs.declared.Pos.{Pos}
+use Rattle.position.specs.declared.Pos.the-variants.{Short, Flat, Long}
 use Rattle.position.specs.declared.Open.{Open}
 use Rattle.position.specs.declared.Open.the-variants as Open
 use Rattle.position.specs.declared.Reference.{Reference}
@@ -23,8 +26,8 @@ use Rattle.position.specs.declared.Description.the-variants.{Event, Stop, Timeo
 use Rattle.position.specs.declared.Record.{Record}
 use Rattle.position.specs.declared.Hold.{Hold}
 use Rattle.position_laws.proofs.OneRecord.{Named}
-use Rattle.position_laws.proofs.Sound.{BarOk, YieldOk, HoldOk, RecordOk, OpenOk, ReferenceOk, HeadOk}
-use Rattle.book.proofs.Fits.{TimeIn, BarIn, YieldIn, HoldIn, DescriptionIn, RecordIn, OpenIn, ReferenceIn, HeadIn}
+use Rattle.position_laws.proofs.Sound.{BarOk, YieldOk, LotsFor, HoldOk, RecordOk, OpenOk, ReferenceOk, HeadOk}
+use Rattle.book.proofs.Fits.{TimeIn, BarIn, YieldIn, LotsIn, HeldIn, HoldIn, DescriptionIn, RecordIn, OpenIn, ReferenceIn, HeadIn}
 
 -- ---- times
 
@@ -50,8 +53,19 @@ pub yield-in : (y : Yield) → YieldOk y → YieldIn y
 yield-in Absent h = tt
 yield-in (Bp x) h = h .1
 
+pub lots-in : (n : ℕ) → lotsOk n ≡ true → LotsIn n
+lots-in n h =
+    let both = and-eq-true-iff (leb 1 n) (leb n lotsLimit) .0 h in
+    (omega (arith, leb-true 1 n (both .0)), omega (arith, leb-true n lotsLimit (both .1)))
+
+held-in : (p : Pos) (n : ℕ) → LotsFor p n → HeldIn p n
+held-in Short n h = lots-in n h
+held-in Flat n h = h
+held-in Long n h = lots-in n h
+
 pub hold-in : (o : Hold) → HoldOk o → HoldIn o
-hold-in o h = record { time = time-in (o .time) (h .time); price = h .double; n1b = yield-in (o .n1b) (h .n1b) }
+hold-in o h =
+    record { time = time-in (o .time) (h .time); price = h .double; n1b = yield-in (o .n1b) (h .n1b); lots = held-in (o .pos) (o .lots) (h .lots) }
 
 -- ---- a record, the head: of a sheet of at most 32 events
 
@@ -61,7 +75,7 @@ description-in s Stop few h = tt
 description-in s Timeout few h = tt
 
 pub record-in : (s : Sheet) (r : Record) → length (s .events) ≤ 32 → RecordOk s r → RecordIn r
-record-in s r few h = record { bar = bar-in (r .bar) (h .bar); description = description-in s (r .description) few (h .named) }
+record-in s r few h = record { bar = bar-in (r .bar) (h .bar); description = description-in s (r .description) few (h .named); lots = lots-in (r .lots) (h .lots) }
 
 open-in : (end : Time) (o : Open) → OpenOk end o → OpenIn o
 open-in end Open.Never h = tt

@@ -16,20 +16,13 @@ use Rattle.book.proofs.Fits.{HoldIn}
 use Rattle.book.proofs.Back.{hold-back}
 use Rattle.book.proofs.Items.{items-one, items-last, item-at, items-put, forall-last}
 use Rattle.book.proofs.Lengths.{hold-length, holds-written}
+use Rattle.book.proofs.Last.{Last, last-of}
 
--- a list by its last hold
-record Last (bar : Bar) (os : List Hold) : Type 0 where
-  front : List Hold
-  last : Hold
-  whole : os ≡ front ++ last ∷ []
-  after : settleLast bar os ≡ front ++ settle bar last ∷ []
-
-last-of : (bar : Bar) (o : Hold) (os : List Hold) → Last bar (o ∷ os)
+settle-last : (bar : Bar) (os : List Hold) (o : Hold) → settleLast bar (os ++ o ∷ []) ≡ os ++ settle bar o ∷ []
 unfolding settleLast
-last-of bar o [] = record { front = []; last = o; whole = refl; after = refl }
-last-of bar o (p ∷ os) =
-    let r = last-of bar p os in
-    record { front = o ∷ r .front; last = r .last; whole = ap (λ (l : List Hold). o ∷ l) (r .whole); after = ap (λ (l : List Hold). o ∷ l) (r .after) }
+settle-last bar [] o = refl
+settle-last bar (p ∷ []) o = refl
+settle-last bar (p ∷ q ∷ os) o = ap (λ (l : List Hold). p ∷ l) (settle-last bar (q ∷ os) o)
 
 module _ (bar : Bar) (hd : List ℕ) (q : List ℕ) (long : length hd ≡ 96) where
   in-place : (os : List Hold) (o : Hold) → HoldIn o → u32 (hd ++ holdsBytes (os ++ o ∷ []) ++ q) 0 ≡ suc (length os)
@@ -57,9 +50,9 @@ module _ (bar : Bar) (hd : List ℕ) (q : List ℕ) (long : length hd ≡ 96) wh
       → settled bar (hd ++ holdsBytes os ++ q) ≡ hd ++ holdsBytes (settleLast bar os) ++ q
   unfolding settled settleLast
   settled-is [] fits n = rw n refl
-  settled-is (o ∷ os) fits n = go (o ∷ os) (last-of bar o os) fits n
+  settled-is (o ∷ os) fits n = go (o ∷ os) (last-of o os) fits n
     where
-      go : (os : List Hold) → Last bar os → Forall HoldIn os → u32 (hd ++ holdsBytes os ++ q) 0 ≡ length os
+      go : (os : List Hold) → Last os → Forall HoldIn os → u32 (hd ++ holdsBytes os ++ q) 0 ≡ length os
           → settled bar (hd ++ holdsBytes os ++ q) ≡ hd ++ holdsBytes (settleLast bar os) ++ q
       go os r fits n =
           let f = r .front in
@@ -67,4 +60,4 @@ module _ (bar : Bar) (hd : List ℕ) (q : List ℕ) (long : length hd ≡ 96) wh
           let count : u32 (hd ++ holdsBytes (f ++ o ∷ []) ++ q) 0 ≡ suc (length f) =
           subst (λ (l : List Hold). u32 (hd ++ holdsBytes l ++ q) 0 ≡ length l) (r .whole) n ∙ omega (arith, length-append f (o ∷ []))
           in
-          rw (r .after) (ap (λ (l : List Hold). settled bar (hd ++ holdsBytes l ++ q)) (r .whole) ∙ in-place f o (forall-last HoldIn os f o (r .whole) fits) count)
+          rw (ap (settleLast bar) (r .whole) ∙ settle-last bar f o) (ap (λ (l : List Hold). settled bar (hd ++ holdsBytes l ++ q)) (r .whole) ∙ in-place f o (forall-last HoldIn os f o (r .whole) fits) count)

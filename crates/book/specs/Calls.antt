@@ -38,6 +38,10 @@ freshDo b = do
   c ← given 8 (capacity b)
   Got (freshBook c)
 
+-- the open lots of a book: those of its last hold, if it has one
+unfoldable pub openLotsIn : List ℕ → ℕ
+openLotsIn b = let hs = u32 b 0 in cond (eqb hs 0) 0 (holdOf (part b (holdPlace (hs - 1)) 32) .lots)
+
 -- the book with its last hold's yield worked out, where there is one
 unfoldable pub settled : Bar → List ℕ → List ℕ
 settled bar b =
@@ -51,7 +55,7 @@ unfoldable pub fed : ℕ → Bar → Going → List ℕ → List ℕ
 fed c bar g b =
     let hs = u32 b 0 in
     let rs = u32 b 4 in
-    let holds = patch (settled bar b) (holdPlace hs) (holdBytes (newHold bar (g .head))) in
+    let holds = patch (settled bar b) (holdPlace hs) (holdBytes (newHold bar g)) in
     let records = patch holds (recordPlace c rs) (recordsBytes (g .wrote)) in
     patch records 0 (headBytes c (hs + 1) (rs + length (g .wrote)) (g .head))
 
@@ -63,7 +67,7 @@ feedOn table b input = do
   _ ← must 10 (headerOk c b)
   i ← input
   f ← admitted c (u32 b 0) (headOf b .end) i
-  let g = stepHead s (f .bar) (f .signals) (headOf b)
+  let g = stepHead s (f .bar) (f .signals) (openLotsIn b) (headOf b)
   Got (record { after = fed c (f .bar) g b; report = reported s (f .signals) g })
 
 -- a feed of four numbers and the signals' text

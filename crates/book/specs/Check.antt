@@ -8,13 +8,15 @@ use lib.Ieee.{isNan}
 use lib.Ieee.Scale.{finite}
 use lib.ListN.{replicate}
 use Rattle.le.specs.Le.{part}
-use Rattle.le.specs.Field.{u8, u32, i64, f64}
+use Rattle.le.specs.Field.{u8, u16, u32, i64, f64}
 use Rattle.text.specs.Text.{same}
 use Rattle.text.specs.Conditions.{allOf, every}
 use Rattle.operate.specs.Operate.{LO, SO}
 use Rattle.bar.specs.Bar.{lastId, timeOk}
+use Rattle.sheet.specs.Sheet.{lotsLimit}
 use Rattle.position.specs.State.{freshHead, trades}
-use Rattle.book.specs.Layout.{headBytes, timeAt, holdPlace, holdSlots, recordSlots}
+use Rattle.position.specs.Step.{heldLots}
+use Rattle.book.specs.Layout.{headBytes, timeAt, posAt, holdPlace, holdSlots, recordSlots}
 
 -- "Absent is zero": n zero bytes
 abbrev pub zeros : List ℕ → ℕ → ℕ → Bool
@@ -28,9 +30,13 @@ storedYieldOk b zero = zeros b 24 8
 storedYieldOk b (suc zero) = not (isNan (f64 b 24))
 storedYieldOk b (suc (suc n)) = false
 
+-- "lots above 1,000 there, or any in a Flat hold, give 10"
+abbrev pub heldLotsOk : List ℕ → Bool
+heldLotsOk b = leb (u16 b 14) (heldLots (posAt (u8 b 12)) lotsLimit)
+
 -- "every hold .. in range"
 unfoldable pub holdOk : List ℕ → Bool
-holdOk b = allOf (timeOk (timeAt b 0 8) ∷ leb (u8 b 12) 2 ∷ storedYieldOk b (u8 b 13) ∷ zeros b 14 2 ∷ finite (f64 b 16) ∷ [])
+holdOk b = allOf (timeOk (timeAt b 0 8) ∷ leb (u8 b 12) 2 ∷ storedYieldOk b (u8 b 13) ∷ heldLotsOk b ∷ finite (f64 b 16) ∷ [])
 
 -- "description (1 event, 2 stop, 3 timeout)", "event index (0 unless 1)", "event indexes .. of records by event in the table", of n events
 abbrev pub descriptionOk : ℕ → ℕ → ℕ → Bool
@@ -45,8 +51,9 @@ recordOk n b =
     ∷ finite (f64 b 16)
     ∷ trades (u8 b 24)
     ∷ leb (u8 b 25) 2
-    ∷ descriptionOk n (u8 b 26) (u32 b 28)
+    ∷ descriptionOk n (u8 b 26) (u16 b 28)
     ∷ eqb (u8 b 27) 0
+    ∷ leb (u16 b 30) lotsLimit
     ∷ [])
 
 -- ---- the header check: "all the above, R ≤ H ≤ C, field ranges, a present reference's operate LO or SO, H = 0 means fresh, stored opens

@@ -7,11 +7,12 @@ use lib.Dec.{leb, eqb}
 use lib.Ieee.{Float}
 use lib.ListN.{length, replicate}
 use Rattle.le.specs.Le.{part}
-use Rattle.le.specs.Field.{u8, u32, i32, i64, f64, put32, putI32, putI64, putF64}
+use Rattle.le.specs.Field.{u8, u16, u32, i32, i64, f64, put16, put32, putI32, putI64, putF64}
 use Rattle.double.specs.declared.Yield.{Yield}
 use Rattle.double.specs.declared.Yield.the-variants.{Absent, Bp}
 use Rattle.bar.specs.declared.Time.{Time}
 use Rattle.position.specs.State.{State, freshState, noTime, posCode}
+use Rattle.position.specs.Step.{heldLots}
 use Rattle.position.specs.declared.Pos.{Pos}
 use Rattle.position.specs.declared.Pos.the-variants.{Short, Flat, Long}
 use Rattle.position.specs.declared.Open.{Open}
@@ -86,9 +87,9 @@ abbrev pub yieldBytes : Yield → List ℕ
 yieldBytes Absent = replicate 8 0
 yieldBytes (Bp x) = putF64 x
 
--- "A hold is 32 bytes: i64 instant, i32 offset, u8 pos, u8 yield present, two zeros, price, yield."
+-- "A hold is 32 bytes: i64 instant, i32 offset, u8 pos, u8 yield present, .., price, yield."; "hold bytes 14 and 15 are a u16 of lots"
 unfoldable pub holdBytes : Hold → List ℕ
-holdBytes o = timeBytes (o .time) ++ (posCode (o .pos) ∷ yieldFlag (o .n1b) ∷ 0 ∷ 0 ∷ []) ++ putF64 (o .price) ++ yieldBytes (o .n1b)
+holdBytes o = timeBytes (o .time) ++ (posCode (o .pos) ∷ yieldFlag (o .n1b) ∷ []) ++ put16 (o .lots) ++ putF64 (o .price) ++ yieldBytes (o .n1b)
 
 -- "description (1 event, 2 stop, 3 timeout)"
 abbrev pub descriptionCode : Description → ℕ
@@ -102,11 +103,12 @@ descriptionEvent (Event i) = i
 descriptionEvent Stop = 0
 descriptionEvent Timeout = 0
 
--- "A record is 32: i64 instant, i32 offset, i32 id, price, u8 operate, pos, description .., 0, u32 event index"
+-- "A record is 32: i64 instant, i32 offset, i32 id, price, u8 operate, pos, description .., 0"; "a record's event index is u16 at 28 and lots u16
+-- at 30"
 unfoldable pub recordBytes : Record → List ℕ
 recordBytes r =
     timeBytes (r .bar .time) ++ put32 (r .bar .id) ++ putF64 (r .bar .price)
-    ++ (r .operate ∷ posCode (r .pos) ∷ descriptionCode (r .description) ∷ 0 ∷ []) ++ put32 (descriptionEvent (r .description))
+    ++ (r .operate ∷ posCode (r .pos) ∷ descriptionCode (r .description) ∷ 0 ∷ []) ++ put16 (descriptionEvent (r .description)) ++ put16 (r .lots)
 
 unfoldable pub holdsBytes : List Hold → List ℕ
 holdsBytes os = flatMap holdBytes os
@@ -160,8 +162,19 @@ abbrev pub yieldAt : ℕ → Float → Yield
 yieldAt zero x = Absent
 yieldAt (suc n) x = Bp x
 
+-- "Lots of 0 in a record, or in a hold with a position, read as 1"
+abbrev pub readLots : ℕ → ℕ
+readLots n = cond (eqb n 0) 1 n
+
 unfoldable pub holdOf : List ℕ → Hold
-holdOf b = record { time = timeAt b 0 8; pos = posAt (u8 b 12); price = f64 b 16; n1b = yieldAt (u8 b 13) (f64 b 24) }
+holdOf b =
+    record {
+      time = timeAt b 0 8;
+      pos = posAt (u8 b 12);
+      price = f64 b 16;
+      n1b = yieldAt (u8 b 13) (f64 b 24);
+      lots = heldLots (posAt (u8 b 12)) (readLots (u16 b 14));
+    }
 
 abbrev pub descriptionAt : ℕ → ℕ → Description
 descriptionAt zero i = Event i
@@ -175,7 +188,8 @@ recordOf b =
       bar = record { id = u32 b 12; time = timeAt b 0 8; price = f64 b 16 };
       operate = u8 b 24;
       pos = posAt (u8 b 25);
-      description = descriptionAt (u8 b 26) (u32 b 28);
+      description = descriptionAt (u8 b 26) (u16 b 28);
+      lots = readLots (u16 b 30);
     }
 
 -- ---- places

@@ -5,11 +5,13 @@ use book_field::pos_at;
 use book_field::pos_code;
 use book_field::put_four;
 use book_field::put_time;
+use book_field::put_two;
 use book_field::time_at;
 use double::Yield;
 use position::Description;
 use position::Hold;
 use position::Record;
+use position_machine::held_lots;
 ghost use mathlib.Core.Path.{_≡_};
 ghost use mathlib.Core.Bool.{true};
 ghost use Prim.Native.Nat.{_+_, _≤_};
@@ -17,7 +19,7 @@ ghost use lib.Ieee.Scale.{finite};
 ghost use lib.ListN.{length};
 ghost use Rattle.le.specs.Le.{patch};
 ghost use Rattle.double.specs.Double.{yieldOk};
-ghost use Rattle.book.specs.Layout.{yieldFlag, yieldBytes, yieldAt, holdBytes, holdOf, descriptionCode, descriptionEvent, descriptionAt, recordBytes, recordOf};
+ghost use Rattle.book.specs.Layout.{yieldFlag, yieldBytes, yieldAt, readLots, holdBytes, holdOf, descriptionCode, descriptionEvent, descriptionAt, recordBytes, recordOf};
 ghost use Rattle.book_entry.specs.Numbers.{HoldNumbers};
 
 // The yield of its flag and its double.
@@ -30,16 +32,28 @@ fn yield_at(flag: u8, x: f64) -> Yield
     }
 }
 
+// Lots as they are read: 0, in a book from before them, is 1.
+fn read_lots(n: u16) -> u16
+    ensures { λ r. ⌜ r ≡ readLots n ⌝ }
+{
+    if n == 0 {
+        return 1;
+    }
+    n
+}
+
 // The hold whose bytes o begins with.
 pub fn hold_at(o: &[u8]) -> Hold
     requires { ⌜ 32 ≤ length (now o) ⌝ }
     ensures { λ r. ⌜ r ≡ holdOf (now (o .entry)) ⌝ }
 {
+    let pos = pos_at(o[12]);
     Hold {
         time: time_at(o, 0, 8),
-        pos: pos_at(o[12]),
+        pos,
         price: double_at(o, 16),
         n1b: yield_at(o[13], double_at(o, 24)),
+        lots: held_lots(pos, read_lots(le::get_u16(o, 14))),
     }
 }
 
@@ -74,13 +88,14 @@ pub fn put_hold(b: &mut [u8], at: usize, o: Hold)
     let pos = o.pos;
     let n1b = o.n1b;
     put_time(b, at, o.time);
-    put_four(b, at + 12, pos_code(pos), yield_flag(n1b), 0, 0);
+    put_two(b, at + 12, pos_code(pos), yield_flag(n1b));
+    le::put_u16(b, at + 14, o.lots);
     le::put_f64(b, at + 16, o.price);
     put_yield(b, at + 24, n1b);
 }
 
 // The description of its code: 1 an event, 2 a stop, 3 a timeout.
-fn description_at(code: u8, event: u32) -> Description
+fn description_at(code: u8, event: u16) -> Description
     ensures { λ r. ⌜ r ≡ descriptionAt code event ⌝ }
 {
     match code {
@@ -105,7 +120,8 @@ pub fn record_at(o: &[u8]) -> Record
         bar,
         operate: o[24],
         pos: pos_at(o[25]),
-        description: description_at(o[26], le::get_u32(o, 28)),
+        description: description_at(o[26], le::get_u16(o, 28)),
+        lots: read_lots(le::get_u16(o, 30)),
     }
 }
 
@@ -121,7 +137,7 @@ pub fn description_code(d: Description) -> u8
 }
 
 // The event of a description, by its index: 0 for a stop or a timeout.
-pub fn description_event(d: Description) -> u32
+pub fn description_event(d: Description) -> u16
     ensures { λ r. ⌜ r ≡ descriptionEvent d ⌝ }
 {
     match d {
@@ -151,5 +167,6 @@ pub fn put_record(b: &mut [u8], at: usize, r: Record)
         description_code(description),
         0,
     );
-    le::put_u32(b, at + 28, description_event(description));
+    le::put_u16(b, at + 28, description_event(description));
+    le::put_u16(b, at + 30, r.lots);
 }

@@ -1,9 +1,11 @@
 // Code only: the checks of a hold and of a record in their 32 bytes.
 use bar::LAST_ID;
 use book_field::double_at;
+use book_field::pos_at;
 use book_field::time_at;
 use book_field::time_ok;
 use double::is_finite;
+use le::get_u16;
 use le::get_u32;
 use le::get_u64;
 use le::is_nan_bits;
@@ -11,6 +13,7 @@ use operate::LE;
 use operate::LO;
 use operate::SE;
 use operate::SO;
+use position_machine::held_lots;
 ghost use mathlib.Core.Path.{_≡_};
 ghost use Prim.Native.Nat.{_+_, _≤_};
 ghost use lib.ListN.{length};
@@ -19,7 +22,10 @@ ghost use Rattle.le.specs.Field.{f64};
 ghost use Rattle.bar.specs.Bar.{timeOk};
 ghost use Rattle.position.specs.State.{trades as State·trades};
 ghost use Rattle.book.specs.Layout.{timeAt};
-ghost use Rattle.book.specs.Check.{zeros as Check·zeros, storedYieldOk, holdOk, descriptionOk, recordOk};
+ghost use Rattle.book.specs.Check.{zeros as Check·zeros, storedYieldOk, heldLotsOk, holdOk, descriptionOk, recordOk};
+
+// The most lots.
+const LOTS_LIMIT: u16 = sheet::LOTS_LIMIT as u16;
 
 // Whether the n bytes of b from `at` on are zero.
 pub fn zeros(b: &[u8], at: usize, n: usize) -> bool
@@ -84,11 +90,11 @@ fn trades(operate: u8) -> bool
 }
 
 // Whether a description's code and event index are right, with n events in the table.
-fn description_ok(n: u32, code: u8, event: u32) -> bool
+fn description_ok(n: u32, code: u8, event: u16) -> bool
     ensures { λ r. ⌜ r ≡ descriptionOk n code event ⌝ }
 {
     if code == 1 {
-        return event < n;
+        return (event as u32) < n;
     }
     if code == 2 {
         return event == 0;
@@ -97,6 +103,14 @@ fn description_ok(n: u32, code: u8, event: u32) -> bool
         return event == 0;
     }
     false
+}
+
+// Whether the lots of a hold are right by its position: none when Flat.
+fn held_lots_ok(o: &[u8]) -> bool
+    requires { ⌜ 32 ≤ length (now o) ⌝ }
+    ensures { λ r. ⌜ r ≡ heldLotsOk (now (o .entry)) ⌝ }
+{
+    get_u16(o, 14) <= held_lots(pos_at(o[12]), LOTS_LIMIT)
 }
 
 // Whether a hold is in range.
@@ -113,7 +127,7 @@ pub fn hold_ok(o: &[u8]) -> bool
     if !stored_yield_ok(o, o[13]) {
         return false;
     }
-    if !zeros(o, 14, 2) {
+    if !held_lots_ok(o) {
         return false;
     }
     is_priced(o, 16)
@@ -139,8 +153,11 @@ pub fn record_ok(o: &[u8], n: u32) -> bool
     if 2 < o[25] {
         return false;
     }
-    if !description_ok(n, o[26], get_u32(o, 28)) {
+    if !description_ok(n, o[26], get_u16(o, 28)) {
         return false;
     }
-    o[27] == 0
+    if o[27] != 0 {
+        return false;
+    }
+    get_u16(o, 30) <= LOTS_LIMIT
 }

@@ -25,7 +25,7 @@ use Rattle.table.specs.Layout.{partsIn}
 use Rattle.table.specs.Table.{isTable, sheetOf, readTable}
 use Rattle.book.specs.Layout.{headOf}
 use Rattle.book.specs.Check.{headerOk}
-use Rattle.book.specs.Calls.{sized, fed, feedOn, feedBytes}
+use Rattle.book.specs.Calls.{sized, openLotsIn, fed, feedOn, feedBytes}
 use Rattle.book_header.specs.Size.{SizeOk}
 use Rattle.book_write.specs.Write.{BookPassed}
 use Rattle.book_feed_input.specs.Bars.{BarAs}
@@ -113,7 +113,7 @@ then-same (Got x) f g h = h x
 module _ (t b : List ℕ) where
   takes : ℕ → Sheet → Fed → Answer (Accepted (List ℕ))
   takes c s f =
-      let g = stepHead s (f .bar) (f .signals) (headOf b) in
+      let g = stepHead s (f .bar) (f .signals) (openLotsIn b) (headOf b) in
       Got (record { after = fed c (f .bar) g b; report = reported s (f .signals) g })
 
   -- behind 10

@@ -5,6 +5,7 @@ use mathlib.Core.List.{List}
 use borrow.Author.Tests.{leb-true}
 use Rattle.list.proofs.Elements.{next-at}
 use Rattle.text.proofs.Conditions.{fact}
+use Rattle.sheet.specs.Sheet.{lotsIn}
 use Rattle.position.specs.Step.{choiceAt, choiceOf}
 use Rattle.table.specs.Layout.{countsIn, between, partsIn}
 use Rattle.table.specs.Table.{eventOk, sheetOf, eventOf}
@@ -26,6 +27,6 @@ module _ {t : List ℕ} {p : Places} (a : Accepted t p) {l : List ℕ} (f : l �
   unfolding eventOk
   operate-most = leb-true _ _ (fact _ (event-ok a f h r) 1)
 
-  pub choice-is : {m : Match} → m ≡ Event i → record { operate = e .operate; event = i } ≡ choiceOf (sheetOf (partsIn t) .events) (matchOf m)
+  pub choice-is : {m : Match} → m ≡ Event i → record { operate = e .operate; event = i; lots = lotsIn (e .kind) } ≡ choiceOf (sheetOf (partsIn t) .events) (matchOf m)
   unfolding eventOf
   choice-is q = sym (ap (λ (x : Match). choiceOf (sheetOf (partsIn t) .events) (matchOf x)) q ∙ ap (choiceAt i) (next-at (sheetOf (partsIn t) .events) i (event-next a f h r)))

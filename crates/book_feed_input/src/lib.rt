@@ -75,6 +75,7 @@ pub fn choose(t: &[u8], m: Match) -> Choice
         return Choice {
             operate: HO,
             event: 0,
+            lots: 0,
         };
     };
     let p = read_places(t);
@@ -83,6 +84,7 @@ pub fn choose(t: &[u8], m: Match) -> Choice
     let e = event_at(&t[from..to], i);
     Choice {
         operate: e.operate as u8,
-        event: i as u32,
+        event: i as u16,
+        lots: e.kind / 2 + 1,
     }
 }

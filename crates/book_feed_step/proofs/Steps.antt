@@ -32,7 +32,7 @@ use Rattle.table.specs.Layout.{settingsIn, partsIn}
 use Rattle.table.specs.Table.{sheetOf}
 use Rattle.table.specs.declared.Settings.{Settings}
 use Rattle.book.specs.Layout.{headOf}
-use Rattle.book.specs.Calls.{fed}
+use Rattle.book.specs.Calls.{openLotsIn, fed}
 use Rattle.book_header.specs.Size.{priced}
 use Rattle.table_match.specs.First.{matchOf, Below}
 use Rattle.table_match.specs.declared.Match.{Match}
@@ -76,9 +76,9 @@ below-more Match.Nothing b h = tt
 -- ---- what is asked of times and prices
 
 module _ {bar : Bar} (i : BarPassed bar) where
-  wrote-priced : (s : Sheet) (ch : Choice) (h : Head) (w : Wrote) → wroteOf w ≡ going s bar ch h .wrote → wrotePriced w ≡ true
-  wrote-priced s ch h Nothing e = refl
-  wrote-priced s ch h (One r) e = ap (λ (x : Bar). finite (x .price)) (update-bar s bar ch h r (sym e)) ∙ i .price
+  wrote-priced : (s : Sheet) (ch : Choice) (lots : ℕ) (h : Head) (w : Wrote) → wroteOf w ≡ going s bar ch lots h .wrote → wrotePriced w ≡ true
+  wrote-priced s ch lots h Nothing e = refl
+  wrote-priced s ch lots h (One r) e = ap (λ (x : Bar). finite (x .price)) (update-bar s bar ch lots h r (sym e)) ∙ i .price
 
   reference-priced : (x : Bool) (ch : Choice) (r : Reference) → priced r ≡ true
       → priced (cond x (Reference.At (record { bar = bar; operate = ch .operate; event = ch .event })) r) ≡ true
@@ -89,12 +89,12 @@ module _ {bar : Bar} (i : BarPassed bar) where
     pub times-in : TimesOk bar h
     times-in = rw read (record { bar = i .time; long = counts ok .head .long; short = counts ok .head .short })
 
-    pub prices-in : (s : Sheet) (ch : Choice) {u : Update} → goingOf u ≡ going s bar ch h → Priced u
-    prices-in s ch {u} e = record {
+    pub prices-in : (s : Sheet) (ch : Choice) (lots : ℕ) {u : Update} → goingOf u ≡ going s bar ch lots h → Priced u
+    prices-in s ch lots {u} e = record {
       reference =
-          ap (λ (g : Going). priced (g .head .reference)) e ∙ ap priced (going-reference s bar ch h)
+          ap (λ (g : Going). priced (g .head .reference)) e ∙ ap priced (going-reference s bar ch lots h)
           ∙ reference-priced (eqb (ch .operate) LO || eqb (ch .operate) SO) ch (h .reference) (rw read (counts ok .head .reference));
-      wrote = wrote-priced s ch h (u .wrote) (ap (λ (g : Going). g .wrote) e);
+      wrote = wrote-priced s ch lots h (u .wrote) (ap (λ (g : Going). g .wrote) e);
     }
 
 -- ---- an accepted bar
@@ -103,16 +103,17 @@ module _ (t b : List ℕ) (c : ℕ) (bar : Bar) (ls : List Line) where
   abbrev sheet : Sheet
   sheet = sheetOf (partsIn t)
 
-  module _ (m : Match) (u : Update) {ch : Choice} {k : Settings} {h : Head} where
+  module _ (m : Match) (u : Update) {ch : Choice} {k : Settings} {lots : ℕ} {h : Head} where
     pub taken-is : {after : List ℕ} {r : Report}
-        → matchOf m ≡ firstMatch (sheet .events) ls → ch ≡ choiceOf (sheet .events) (matchOf m) → k ≡ settingsIn t → h ≡ headOf b
-        → goingOf u ≡ going (ofSettings k) bar ch h → after ≡ fed c bar (goingOf u) b → r ≡ reportedBy (matchOf m) (goingOf u)
+        → matchOf m ≡ firstMatch (sheet .events) ls → ch ≡ choiceOf (sheet .events) (matchOf m) → k ≡ settingsIn t → lots ≡ openLotsIn b → h ≡ headOf b
+        → goingOf u ≡ going (ofSettings k) bar ch lots h → after ≡ fed c bar (goingOf u) b → r ≡ reportedBy (matchOf m) (goingOf u)
         → record { after = after; report = r } ≡ taken t c bar ls b
     unfolding taken stepHead choose
-    taken-is em ec ek eh eg ea er =
-        let is : goingOf u ≡ stepHead sheet bar ls (headOf b) =
-        eg ∙ ap₂ (λ (k : Settings) (h : Head). going (ofSettings k) bar ch h) ek eh ∙ sym (settings-only t bar ch (headOf b))
-        ∙ ap (λ (x : Choice). going sheet bar x (headOf b)) (ec ∙ ap (choiceOf (sheet .events)) em)
+    taken-is em ec ek el eh eg ea er =
+        let is : goingOf u ≡ stepHead sheet bar ls (openLotsIn b) (headOf b) =
+        eg ∙ ap (λ (n : ℕ). going (ofSettings k) bar ch n h) el ∙ ap₂ (λ (k : Settings) (h : Head). going (ofSettings k) bar ch (openLotsIn b) h) ek eh
+        ∙ sym (settings-only t bar ch (openLotsIn b) (headOf b))
+        ∙ ap (λ (x : Choice). going sheet bar x (openLotsIn b) (headOf b)) (ec ∙ ap (choiceOf (sheet .events)) em)
         in
         ap₂ (λ (x : List ℕ) (y : Report). record { after = x; report = y }) (ea ∙ ap (λ (g : Going). fed c bar g b) is)
-        (er ∙ ap₂ reportedBy em is ∙ reported-is sheet ls (stepHead sheet bar ls (headOf b)))
+        (er ∙ ap₂ reportedBy em is ∙ reported-is sheet ls (stepHead sheet bar ls (openLotsIn b) (headOf b)))

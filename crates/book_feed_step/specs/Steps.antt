@@ -17,7 +17,7 @@ use Rattle.position.specs.declared.Report.{Report}
 use Rattle.table.specs.Layout.{partsIn}
 use Rattle.table.specs.Table.{sheetOf}
 use Rattle.book.specs.Layout.{headOf}
-use Rattle.book.specs.Calls.{fed}
+use Rattle.book.specs.Calls.{openLotsIn, fed}
 
 -- ---- what decided a bar, by the event that matched and the records
 
@@ -38,5 +38,5 @@ inTime bar b = eqb (u32 b 0) 0 || ltZ (headOf b .end .instant .0) (bar .time .in
 unfoldable pub taken : List ℕ → ℕ → Bar → List Line → List ℕ → Accepted (List ℕ)
 taken t c bar ls b =
     let s = sheetOf (partsIn t) in
-    let g = stepHead s bar ls (headOf b) in
+    let g = stepHead s bar ls (openLotsIn b) (headOf b) in
     record { after = fed c bar g b; report = reported s ls g }

@@ -2,6 +2,7 @@
 use bar::Bar;
 use book_feed_input::choose;
 use book_header::read_head;
+use book_write::open_lots;
 use book_write::write_bar;
 use le::get_i64;
 use le::get_u32;
@@ -28,7 +29,7 @@ ghost use Rattle.book_feed_step.specs.Steps.{decidedBy, reportedBy, inTi
 
 // What decided a bar, by the event that matched and the record.
 fn decide(m: Match, w: Wrote) -> Decision
-    requires { ⌜ Below 4294967296 m ⌝ }
+    requires { ⌜ Below 65536 m ⌝ }
     ensures { λ r. ⌜ r ≡ decidedBy (matchOf m) (wroteOf w) ⌝ }
 {
     if let Wrote::One(r) = w {
@@ -36,14 +37,14 @@ fn decide(m: Match, w: Wrote) -> Decision
         return Decision::By(description);
     }
     match m {
-        Match::Event(i) => Decision::By(Description::Event(i as u32)),
+        Match::Event(i) => Decision::By(Description::Event(i as u16)),
         Match::Nothing => Decision::Nothing,
     }
 }
 
 // What is said of an accepted bar.
 fn report(m: Match, u: Update) -> Report
-    requires { ⌜ Below 4294967296 m ⌝ }
+    requires { ⌜ Below 65536 m ⌝ }
     ensures { λ r. ⌜ r ≡ reportedBy (matchOf m) (goingOf u) ⌝ }
 {
     let h = u.head;
@@ -77,7 +78,13 @@ pub fn take_bar(
     ensures { λ r. ⌜ record { after = now (b .exit); report = r } ≡ taken (now (t .entry)) c bar (linesAt (now (s .entry)) (now (starts .entry)) (now (mids .entry)) n) (now (b .entry)) ⌝ }
 {
     let m = first_match(t, s, starts, mids, prints, n);
-    let u = update(read_settings(t), bar, choose(t, m), read_head(b));
+    let u = update(
+        read_settings(t),
+        bar,
+        choose(t, m),
+        open_lots(b, c),
+        read_head(b),
+    );
     write_bar(b, c, bar, u);
     report(m, u)
 }

@@ -53,6 +53,15 @@ pub fn put_time(b: &mut [u8], at: usize, t: Time)
     le::put_i32(b, at + 8, t.offset);
 }
 
+// Writes two bytes from `at` on.
+pub fn put_two(b: &mut [u8], at: usize, w: u8, x: u8)
+    requires { ⌜ at + 2 ≤ length (now b) ⌝ }
+    ensures { λ _. ⌜ now (b .exit) ≡ patch (now (b .entry)) at (w ∷ x ∷ []) ⌝ }
+{
+    b[at] = w;
+    b[at + 1] = x;
+}
+
 // Writes four bytes from `at` on.
 pub fn put_four(b: &mut [u8], at: usize, w: u8, x: u8, y: u8, z: u8)
     requires { ⌜ at + 4 ≤ length (now b) ⌝ }

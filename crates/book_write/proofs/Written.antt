@@ -16,12 +16,11 @@ use Rattle.text.proofs.Put.{patch-none}
 use Rattle.double.specs.Double.{holdYield, yieldOk}
 use Rattle.double.proofs.Numbers.{hold-number}
 use Rattle.bar.specs.declared.Bar.{Bar}
-use Rattle.position.specs.Step.{settle, newHold}
-use Rattle.position.specs.declared.Head.{Head}
+use Rattle.position.specs.Step.{Going, settle, newHold}
 use Rattle.position.specs.declared.Hold.{Hold}
 use Rattle.position.specs.declared.Record.{Record}
 use Rattle.book.specs.Layout.{headBytes, holdBytes, holdOf, recordBytes, recordsBytes, holdPlace, recordPlace}
-use Rattle.book.specs.Calls.{settled, fed}
+use Rattle.book.specs.Calls.{openLotsIn, settled, fed}
 use Rattle.book.proofs.Items.{items-one}
 use Rattle.book.proofs.Lengths.{records-written}
 use Rattle.book_entry.specs.Numbers.{HoldNumbers}
@@ -45,28 +44,36 @@ module _ {bar : Bar} (i : BarPassed bar) where
   unfolding settle
   settled-numbers o e f = rw e (record { price = f; n1b = is-true (yieldOk (holdYield (o .price) (bar .price))) (hold-number (o .price) (bar .price) (passes (finite (bar .price)) (i .price))) })
 
-  pub new-numbers : (h : Head) {p : Hold} → p ≡ newHold bar h → HoldNumbers p
+  pub new-numbers : (g : Going) {p : Hold} → p ≡ newHold bar g → HoldNumbers p
   unfolding newHold
-  new-numbers h e = rw e (record { price = i .price; n1b = refl })
+  new-numbers g e = rw e (record { price = i .price; n1b = refl })
 
 -- ---- the last hold
 
-module _ (b : List ℕ) (bar : Bar) {hs : ℕ} (counted : hs ≡ u32 b 0) where
-  pub settled-none : hs ≡ 0 → b ≡ settled bar b
-  unfolding settled
-  settled-none e = rw (← counted, e) refl
+module _ (b : List ℕ) {hs : ℕ} (counted : hs ≡ u32 b 0) where
+  pub lots-none : hs ≡ 0 → 0 ≡ openLotsIn b
+  unfolding openLotsIn
+  lots-none e = rw (← counted, e) refl
 
   module _ {o : Hold} (read : o ≡ holdOf (take (96 + 32 * (hs - 1) + 32 - (96 + 32 * (hs - 1))) (drop (96 + 32 * (hs - 1)) b))) where
     last-is : o ≡ holdOf (part b (holdPlace (u32 b 0 - 1)) 32)
     last-is = rw (← counted) (read ∙ ap holdOf (part-lent b (holdPlace (hs - 1)) 32))
 
+    pub lots-some : hs ≢ 0 → o .lots ≡ openLotsIn b
+    unfolding openLotsIn
+    lots-some h = rw (ne-eqb (u32 b 0) 0 (λ e. h (counted ∙ e))) (ap (λ (x : Hold). x .lots) last-is)
+
     pub last-priced : {c : ℕ} → BookPassed b c → hs ≢ 0 → finite (o .price) ≡ true
     unfolding holdOf
     last-priced ok h = rw last-is (counts ok .last (λ e. h (counted ∙ e)) .price)
 
-    pub settled-some : {p : Hold} {m : List ℕ} → hs ≢ 0 → p ≡ settle bar o → m ≡ patch b (96 + 32 * (hs - 1)) (holdBytes p) → m ≡ settled bar b
+    pub settled-some : (bar : Bar) {p : Hold} {m : List ℕ} → hs ≢ 0 → p ≡ settle bar o → m ≡ patch b (96 + 32 * (hs - 1)) (holdBytes p) → m ≡ settled bar b
     unfolding settled
-    settled-some h s w = w ∙ rw (← counted, ne-eqb hs 0 h, s) (ap (λ (x : Hold). patch b (96 + 32 * (hs - 1)) (holdBytes (settle bar x))) (rw counted last-is))
+    settled-some bar h s w = w ∙ rw (← counted, ne-eqb hs 0 h, s) (ap (λ (x : Hold). patch b (96 + 32 * (hs - 1)) (holdBytes (settle bar x))) (rw counted last-is))
+
+  pub settled-none : (bar : Bar) → hs ≡ 0 → b ≡ settled bar b
+  unfolding settled
+  settled-none bar e = rw (← counted, e) refl
 
 -- ---- the records
 
@@ -88,7 +95,7 @@ module _ (b : List ℕ) (at : ℕ) where
 -- ---- the book
 
 pub written : (b : List ℕ) (c : ℕ) (bar : Bar) (u : Update) {hs rs n : ℕ} {o : Hold} {b1 b2 b3 b4 : List ℕ}
-    → hs ≡ u32 b 0 → rs ≡ u32 b 4 → b1 ≡ settled bar b → o ≡ newHold bar (u .head) → b2 ≡ patch b1 (holdPlace hs) (holdBytes o)
+    → hs ≡ u32 b 0 → rs ≡ u32 b 4 → b1 ≡ settled bar b → o ≡ newHold bar (goingOf u) → b2 ≡ patch b1 (holdPlace hs) (holdBytes o)
     → Recorded b2 (recordPlace c rs) (u .wrote) b3 n → b4 ≡ patch b3 0 (headBytes c (hs + 1) (rs + n) (u .head)) → b4 ≡ fed c bar (goingOf u) b
 unfolding fed
 written b c bar u e0 e1 e2 e3 e4 e5 e6 = e6 ∙ rw (e5 .1, e5 .0, e4, e3, e2, e1, e0) refl

@@ -18,9 +18,23 @@ ghost use lib.ListN.{length};
 ghost use Rattle.le.specs.Le.{patch};
 ghost use Rattle.le.specs.Field.{u32 as Field·u32};
 ghost use Rattle.book.specs.Layout.{recordsBytes};
-ghost use Rattle.book.specs.Calls.{settled, fed};
+ghost use Rattle.book.specs.Calls.{openLotsIn, settled, fed};
 ghost use Rattle.position_machine.specs.Update.{wroteOf, goingOf};
 ghost use Rattle.book_write.specs.Write.{BookPassed, BarPassed, wrotePriced, Priced};
+
+// The open lots of a book: those of its last hold, if it has one.
+pub fn open_lots(b: &[u8], c: u32) -> u16
+    requires { ⌜ BookPassed (now b) c ⌝ }
+    ensures { λ r. ⌜ r ≡ openLotsIn (now (b .entry)) ⌝ }
+{
+    let holds = get_u32(b, 0) as usize;
+    if holds == 0 {
+        return 0;
+    }
+    let at = HEAD_LENGTH + ENTRY_LENGTH * (holds - 1);
+    let o = hold_at(&b[at..at + ENTRY_LENGTH]);
+    o.lots
+}
 
 // Works out the yield of the last hold, where there is one.
 fn settle_last(b: &mut [u8], c: u32, bar: Bar)
@@ -66,7 +80,7 @@ pub fn write_bar(b: &mut [u8], c: u32, bar: Bar, u: Update)
     put_hold(
         b,
         HEAD_LENGTH + ENTRY_LENGTH * hs as usize,
-        new_hold(bar, h),
+        new_hold(bar, u),
     );
     let records = HEAD_LENGTH + ENTRY_LENGTH * c as usize;
     let n = put_wrote(b, records + ENTRY_LENGTH * rs as usize, w);

@@ -66,7 +66,7 @@ absent = (refl, refl, refl, refl, refl)
 -- ---- an event
 
 abbrev event : Bool → List Clause → Event
-event exit cs = record { exit = exit; operate = LO; name = []; clauses = cs }
+event exit cs = record { exit = exit; operate = LO; name = []; lots = 1; clauses = cs }
 
 -- an N that does not hold, an N that holds; an A that does not; a Y that does not, beside none and beside one that does
 abbrev other : Signal

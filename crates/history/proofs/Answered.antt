@@ -1,7 +1,7 @@
 -- No call says 0 unless it is done; and what each then leaves. Assumes nothing.
 use Prim.Native.Nat.{ℕ, suc}
 use mathlib.Core.Bool.{Bool, true, false, cond, _||_}
-use mathlib.Core.List.{List}
+use mathlib.Core.List.{List, [], _∷_}
 use mathlib.Core.Option.{Option, none, some}
 use mathlib.Core.Path.{_≡_, refl}
 use lib.Dec.{T, ltb, eqb}
@@ -17,7 +17,7 @@ use Rattle.stop.specs.Stop.{hundredthsOf}
 use Rattle.operate.specs.Operate.{operateOf}
 use Rattle.signal.specs.Signal.{signalOf}
 use Rattle.sheet.specs.Sheet.{Kind, Sheet}
-use Rattle.sheet.specs.Read.{positionLine, eventLine, clauseLine, laterLine, sheetLine, readSheet}
+use Rattle.sheet.specs.Read.{positionLine, lotsBehind, eventLine, clauseLine, laterLine, sheetLine, readSheet}
 use Rattle.bar.specs.Bar.{barOf}
 use Rattle.bar.specs.declared.Time.{Time}
 use Rattle.event.specs.Signals.{Line, signalLine, readSignals}
@@ -67,9 +67,13 @@ position-gives : (f : List (List ℕ)) → Gives Any (positionLine f)
 unfolding positionLine unsigned hundredthsOf
 position-gives f = search loud depth 14
 
+lots-give : (f : List (List ℕ)) → Gives Any (lotsBehind f)
+lots-give [] = search loud
+lots-give (field ∷ f) = search loud
+
 event-gives : (exit : Bool) (s : Sheet) (f : List (List ℕ)) → Gives Any (eventLine exit s f)
 unfolding eventLine
-event-gives exit s f = search (loud, operate-gives)
+event-gives exit s f = search (loud, operate-gives, lots-give) depth 12
 
 clause-gives : (kind : Kind) (s : Sheet) (f : List (List ℕ)) → Gives Any (clauseLine kind s f)
 unfolding clauseLine

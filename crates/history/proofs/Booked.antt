@@ -9,7 +9,7 @@ use lib.ListN.{length}
 use Rattle.text.specs.Answer.{Answer, Refused, Got, _>>=_, number}
 use Rattle.sheet.specs.Sheet.{Sheet}
 use Rattle.table.specs.Table.{readTable}
-use Rattle.table.proofs.Facts.{table-length, table-events}
+use Rattle.table.proofs.Facts.{table-length, table-events, table-lots}
 use Rattle.position.specs.State.{State, freshState}
 use Rattle.position.specs.Step.{Fed, step}
 use Rattle.position.specs.Feed.{Input, admitted, Accepted, reportOf, feedState}
@@ -58,7 +58,7 @@ module _ (table : List ℕ) (s : Sheet) (meant : readTable table ≡ Got s) wher
       record {
         bars = c;
         state = refl;
-        sound = sound-step s (f .bar) (f .signals) st (k .sound) (fed-ok i f (a .0) double) (a .1);
+        sound = sound-step s (f .bar) (f .signals) st (table-lots table s meant) (k .sound) (fed-ok i f (a .0) double) (a .1);
         room = record { events = room .events; least = room .least; most = room .most; holds = omega arith };
       }
 
@@ -73,7 +73,7 @@ module _ (table : List ℕ) (s : Sheet) (meant : readTable table ≡ Got s) wher
       c = k .bars
 
       next : Fed → Accepted State
-      next f = record { after = step s (f .bar) (f .signals) st; report = reportOf s f (st .head) }
+      next f = record { after = step s (f .bar) (f .signals) st; report = reportOf s f st }
 
       is : feedDo table b i ≡ (feedState s c i st >>= λ a. Got (record { after = encode c (a .after); report = a .report }))
       is =

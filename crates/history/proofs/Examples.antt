@@ -14,7 +14,7 @@ use Rattle.text.specs.Text.{same}
 use Rattle.double.specs.declared.Yield.the-variants.{Absent}
 use Rattle.position.specs.Step.{plain}
 use Rattle.table.proofs.Examples.{soy, meant}
-use Rattle.book.specs.Layout.{encode}
+use Rattle.book.specs.Layout.{recordsOf, encode}
 use Rattle.book.specs.Calls.{freshDo}
 use Rattle.row.specs.Calls.{pairDo, pairBytes, holdDo}
 use Rattle.row_blocks.specs.Blocks.{countsDo}
@@ -69,7 +69,7 @@ calls =
     ∷ Ask (HoldRow soy (negsuc 0))
     ∷ Ask (Counts soy)
     ∷ Ask (HoldRows soy (pos 1) (replicate 64 0))
-    ∷ Ask (PairRows soy (pos 1) (replicate 2136 0))
+    ∷ Ask (PairRows soy (pos 1) (replicate 2144 0))
     ∷ Ask (EventName soy (pos 0) (replicate 256 0))
     ∷ []
 
@@ -173,3 +173,19 @@ lost = (refl, refl)
 found : left (beginning ++ Restore soy start 0 ∷ Restore soy image 0 ∷ []) ≡ 1 ∷ []
 unfolding opened soy start buffer beginning image
 found = refl
+
+-- ---- lots: five are opened, saved, closed, brought back by a restore and closed again, by a record that has them
+
+-- soy, with five lots on its opening
+unfoldable hedge : List ℕ
+hedge = patch soy 80 (8 ∷ 0 ∷ [])
+
+unfoldable opening : List Call
+opening = feed hedge 1 1 up ∷ Save hedge buffer ∷ []
+
+unfoldable again : List Call
+again = opening ++ feed hedge 2 86400000001 down ∷ Restore hedge (bookAfter start opening) 0 ∷ feed hedge 3 86400000002 down ∷ []
+
+five : (map (λ r. r .lots) (recordsOf 3 (bookAfter start again)) ≡ 5 ∷ 5 ∷ []) × (ids (survivors hedge (doneFrom start again)) ≡ 1 ∷ 3 ∷ [])
+unfolding opened soy hedge start buffer opening again
+five = (refl, refl)

@@ -74,7 +74,7 @@ module _ (table : List ℕ) (s : Sheet) (meant : readTable table ≡ Got s) wher
       fit = ready table s c st (table-length table s meant) meant (k .sound) (k .room)
 
       next : Fed → Accepted State
-      next f = record { after = step s (f .bar) (f .signals) st; report = reportOf s f (st .head) }
+      next f = record { after = step s (f .bar) (f .signals) st; report = reportOf s f st }
 
       go : (a : Answer Fed) → admitted c (length (st .holds)) (st .head .end) i ≡ a
           → (a >>= (λ f. Got (next f)) >>= λ y. Got (record { after = encode c (y .after); report = y .report })) ≡ Got x

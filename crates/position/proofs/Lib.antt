@@ -2,3 +2,4 @@
 pub mod Opened
 pub mod Starred
 pub mod TradingDay
+pub mod Lots

@@ -7,8 +7,8 @@ use Rattle.position.specs.Feed.{lineInput, fedOf, admitted, reported, re
 use Rattle.position.specs.Rows.{eventTag, sequencePart, sequenceOf, pairOf, pairsOf, holdRow, holdRows}
 use Rattle.position.specs.Run.{cut, ended, barLine, addSignal, inputLine, readInput, line, feedLine, pairLine, holdLine, feedAll, runDo}
 use Rattle.position.specs.State.{freshHead, freshState}
-use Rattle.position.specs.Step.{choose, stopped, timedOut, write, arrive, openOrClose, opening, closing, going, stepHead, settle, settleLast, newHold, step, decided, plainFrom, plain}
+use Rattle.position.specs.Step.{choose, stopped, timedOut, write, arrive, openOrClose, opening, closing, going, stepHead, settle, settleLast, newHold, openLots, step, decided, plainFrom, plain}
 
 unfoldable pub opened : Unit {0}
-unfolding opened-double opened-bar opened-line opened-event lineInput fedOf admitted reported reportOf feedState eventTag sequencePart sequenceOf pairOf pairsOf holdRow holdRows cut ended barLine addSignal inputLine readInput line feedLine pairLine holdLine feedAll runDo freshHead freshState choose stopped timedOut write arrive openOrClose opening closing going stepHead settle settleLast newHold step decided plainFrom plain
+unfolding opened-double opened-bar opened-line opened-event lineInput fedOf admitted reported reportOf feedState eventTag sequencePart sequenceOf pairOf pairsOf holdRow holdRows cut ended barLine addSignal inputLine readInput line feedLine pairLine holdLine feedAll runDo freshHead freshState choose stopped timedOut write arrive openOrClose opening closing going stepHead settle settleLast newHold openLots step decided plainFrom plain
 opened = tt

@@ -15,8 +15,7 @@ use Rattle.bar_line.specs.Line.{lineOf}
 use Rattle.sheet.specs.Sheet.{Sheet}
 use Rattle.event.specs.Signals.{Line, readSignals}
 use Rattle.position.specs.State.{State}
-use Rattle.position.specs.Step.{Going, Fed, stepHead, step, decided}
-use Rattle.position.specs.declared.Head.{Head}
+use Rattle.position.specs.Step.{Going, Fed, stepHead, openLots, step, decided}
 use Rattle.position.specs.declared.Report.{Report}
 
 -- what reaches a feed beside the table and the book: numbers, a double and a text
@@ -59,11 +58,11 @@ pub record Accepted (X : Type 0) : Type 0 where
 unfoldable pub reported : Sheet → List Line → Going → Report
 reported s ls g = record { pos = g .head .pos; changed = g .head .changed; decision = decided s ls (g .wrote) }
 
-unfoldable pub reportOf : Sheet → Fed → Head → Report
-reportOf s f h = reported s (f .signals) (stepHead s (f .bar) (f .signals) h)
+unfoldable pub reportOf : Sheet → Fed → State → Report
+reportOf s f st = reported s (f .signals) (stepHead s (f .bar) (f .signals) (openLots (st .holds)) (st .head))
 
 -- a feed of the plain machine with room for c bars
 unfoldable pub feedState : Sheet → ℕ → Input → State → Answer (Accepted State)
 feedState s c i st = do
   f ← admitted c (length (st .holds)) (st .head .end) i
-  Got (record { after = step s (f .bar) (f .signals) st; report = reportOf s f (st .head) })
+  Got (record { after = step s (f .bar) (f .signals) st; report = reportOf s f st })

@@ -7,3 +7,4 @@ pub mod Run
 pub mod Cases
 pub mod Further
 pub mod TradingDay
+pub mod Lots

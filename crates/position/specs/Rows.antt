@@ -82,6 +82,7 @@ pub record Pair : Type 0 where
   pub sequence : List ℕ
   pub days : Float
   pub yield : Yield
+  pub lots : ℕ
 
 -- "whose first is LO or SO"; "L or S"
 abbrev pub opens : Record → Bool
@@ -91,7 +92,7 @@ abbrev pub sideOf : Record → Side
 sideOf a = cond (eqb (a .operate) LO) Side.Long Side.Short
 
 -- "symbol, mark (position name), L or S, both local times, both prices, id difference, sequence, days (elapsed whole seconds/86400
--- as doubles), yield"; "The sequence joins both descriptions by ` -> `"
+-- as doubles), yield"; "The sequence joins both descriptions by ` -> `"; "Pair rows end with the opening lots"
 unfoldable pub pairOf : Sheet → Record → Record → Pair
 pairOf s a b =
     record {
@@ -106,6 +107,7 @@ pairOf s a b =
       sequence = sequenceOf s a ++ bytes " -> " ++ sequenceOf s b;
       days = daysOf (secondsBetween (a .bar .time .instant .0) (b .bar .time .instant .0));
       yield = pairYield (sideOf a) (a .bar .price) (b .bar .price);
+      lots = a .lots;
     }
 
 -- "Pairs (`pairs`) are neighbouring records whose first is LO or SO"

@@ -114,12 +114,12 @@ flagText false = bytes "0"
 unfoldable pub feedLine : ℕ → State → List ℕ
 feedLine n st = line (bytes "F" ∷ decimalOf n ∷ integerOf (posSign (st .head .pos)) ∷ flagText (st .head .changed) ∷ [])
 
--- "pairs as R"
+-- "pairs as R"; "Pair rows end with the opening lots, and so do R lines"
 unfoldable pub pairLine : Pair → List ℕ
 pairLine p =
     line
     (bytes "R" ∷ p .symbol ∷ p .mark ∷ sideText (p .side) ∷ integerOf (p .openLocal .0) ∷ integerOf (p .closeLocal .0)
-    ∷ hexBits (p .openPrice) ∷ hexBits (p .closePrice) ∷ integerOf (p .ids) ∷ p .sequence ∷ hexBits (p .days) ∷ yieldText (p .yield) ∷ [])
+    ∷ hexBits (p .openPrice) ∷ hexBits (p .closePrice) ∷ integerOf (p .ids) ∷ p .sequence ∷ hexBits (p .days) ∷ yieldText (p .yield) ∷ decimalOf (p .lots) ∷ [])
 
 -- "holds as H"
 unfoldable pub holdLine : HoldRow → List ℕ

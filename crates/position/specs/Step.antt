@@ -72,11 +72,11 @@ lastOpen Side.Short h = h .short
 
 -- "Choose an event: its operate and name; none gives HO." An event's name is had by its index.
 abbrev pub choiceAt : ℕ → Option Event → Choice
-choiceAt i none = record { operate = HO; event = 0 }
-choiceAt i (some e) = record { operate = e .operate; event = i }
+choiceAt i none = record { operate = HO; event = 0; lots = 0 }
+choiceAt i (some e) = record { operate = e .operate; event = i; lots = e .lots }
 
 abbrev pub choiceOf : List Event → Option ℕ → Choice
-choiceOf es none = record { operate = HO; event = 0 }
+choiceOf es none = record { operate = HO; event = 0; lots = 0 }
 choiceOf es (some i) = choiceAt i (getElem? es i)
 
 unfoldable pub choose : Sheet → List Line → Choice
@@ -116,19 +116,21 @@ stopped s side b r = stopHit side (stopOf s) (r .bar .price) (b .price)
 unfoldable pub timedOut : Sheet → Bar → LastEvent → Bool
 timedOut s b r = ltb (s .timeout) (b .id - r .bar .id)
 
--- ---- a bar on its way: the head so far, and the records written
+-- ---- a bar on its way: the head so far, the lots of the position, and the records written
 
 pub record Going : Type 0 where
   pub head : Head
+  pub lots : ℕ
   pub wrote : List Record
 
--- "A record sets changed and keeps the pos after it."
-unfoldable pub write : Bar → ℕ → Pos → Description → Going → Going
-write b operate p description g =
+-- "A record sets changed and keeps the pos after it.", with the lots that it opens or closes
+unfoldable pub write : Bar → ℕ → Pos → Description → ℕ → Going → Going
+write b operate p description lots g =
     let h = g .head in
     record {
       head = record { pos = p; changed = true; end = h .end; long = h .long; short = h .short; reference = h .reference };
-      wrote = g .wrote ++ record { bar = b; operate = operate; pos = p; description = description } ∷ [];
+      lots = lots;
+      wrote = g .wrote ++ record { bar = b; operate = operate; pos = p; description = description; lots = lots } ∷ [];
     }
 
 -- "last long open is now"
@@ -137,12 +139,14 @@ openNow Side.Long b g =
     let h = g .head in
     record {
       head = record { pos = h .pos; changed = h .changed; end = h .end; long = Open.At (b .time); short = h .short; reference = h .reference };
+      lots = g .lots;
       wrote = g .wrote;
     }
 openNow Side.Short b g =
     let h = g .head in
     record {
       head = record { pos = h .pos; changed = h .changed; end = h .end; long = h .long; short = Open.At (b .time); reference = h .reference };
+      lots = g .lots;
       wrote = g .wrote;
     }
 
@@ -153,20 +157,22 @@ abbrev pub referenceFor : Bar → Choice → Reference → Reference
 referenceFor b c r =
     cond (eqb (c .operate) LO || eqb (c .operate) SO) (Reference.At (record { bar = b; operate = c .operate; event = c .event })) r
 
--- "1. Changed is no." "2. End is this bar's time."
-unfoldable pub arrive : Bar → Choice → Head → Going
-arrive b c h =
+-- "1. Changed is no." "2. End is this bar's time." The lots are those open before the bar.
+unfoldable pub arrive : Bar → Choice → ℕ → Head → Going
+arrive b c lots h =
     record {
       head = record { pos = h .pos; changed = false; end = b .time; long = h .long; short = h .short; reference = referenceFor b c (h .reference) };
+      lots = lots;
       wrote = [];
     }
 
--- "If allowed and not Long: Long, last long open is now, record LO. Otherwise, if Short and (..): Flat, record SE."
+-- "If allowed and not Long: Long, last long open is now, record LO. Otherwise, if Short and (..): Flat, record SE."; "A closing record carries the
+-- closed lots, an opening or reversing one the new lots."
 unfoldable pub openOrClose : Sheet → Bar → Choice → Side → Going → Going
 openOrClose s b c side g =
     let h = g .head in
-    let opened = write b (openOf side) (posOf side) (ByEvent (c .event)) (openNow side b g) in
-    let closed = write b (closeOf (other side)) Flat (ByEvent (c .event)) g in
+    let opened = write b (openOf side) (posOf side) (ByEvent (c .event)) (c .lots) (openNow side b g) in
+    let closed = write b (closeOf (other side)) Flat (ByEvent (c .event)) (g .lots) g in
     cond (allowed s b (lastOpen side h) && not (on side (h .pos))) opened
     (cond (on (other side) (h .pos) && mayClose s b (lastOpen (other side) h)) closed g)
 
@@ -178,9 +184,9 @@ opening s b c side g = cond (eqb (c .operate) (openOf side)) (openOrClose s b c 
 abbrev pub closeOn : Sheet → Bar → Choice → Side → Reference → Going → Going
 closeOn s b c side Reference.Never g = g
 closeOn s b c side (Reference.At r) g =
-    cond (eqb (c .operate) (closeOf side)) (write b (closeOf side) Flat (ByEvent (c .event)) g)
-    (cond (stopped s side b r) (write b (closeOf side) Flat Stop g)
-    (cond (timedOut s b r) (write b (closeOf side) Flat Timeout g) g))
+    cond (eqb (c .operate) (closeOf side)) (write b (closeOf side) Flat (ByEvent (c .event)) (g .lots) g)
+    (cond (stopped s side b r) (write b (closeOf side) Flat Stop (g .lots) g)
+    (cond (timedOut s b r) (write b (closeOf side) Flat Timeout (g .lots) g) g))
 
 -- "5. If Long, a reference exists, and (t0, or no last long open, or its day differs): .." "6. If Short: the same .."
 unfoldable pub closing : Sheet → Bar → Choice → Side → Going → Going
@@ -189,31 +195,43 @@ closing s b c side g =
     cond (on side (h .pos) && mayClose s b (lastOpen side h)) (closeOn s b c side (h .reference) g) g
 
 -- steps 1 to 6, where c was chosen
-unfoldable pub going : Sheet → Bar → Choice → Head → Going
-going s b c h =
-    closing s b c Side.Short (closing s b c Side.Long (opening s b c Side.Short (opening s b c Side.Long (arrive b c h))))
+unfoldable pub going : Sheet → Bar → Choice → ℕ → Head → Going
+going s b c lots h =
+    closing s b c Side.Short (closing s b c Side.Long (opening s b c Side.Short (opening s b c Side.Long (arrive b c lots h))))
 
-unfoldable pub stepHead : Sheet → Bar → List Line → Head → Going
-stepHead s b ls h = going s b (choose s ls) h
+unfoldable pub stepHead : Sheet → Bar → List Line → ℕ → Head → Going
+stepHead s b ls lots h = going s b (choose s ls) lots h
 
 -- "7. If the previous hold's price > 0, its yield becomes (price/its price - 1) × 10000." Else it stays absent, as the last hold's always is.
 unfoldable pub settle : Bar → Hold → Hold
-settle b o = record { time = o .time; pos = o .pos; price = o .price; n1b = holdYield (o .price) (b .price) }
+settle b o = record { time = o .time; pos = o .pos; price = o .price; n1b = holdYield (o .price) (b .price); lots = o .lots }
 
 unfoldable pub settleLast : Bar → List Hold → List Hold
 settleLast b [] = []
 settleLast b (o ∷ []) = settle b o ∷ []
 settleLast b (o ∷ p ∷ os) = o ∷ settleLast b (p ∷ os)
 
+-- "lots, 0 when Flat"
+abbrev pub heldLots : Pos → ℕ → ℕ
+heldLots Short lots = lots
+heldLots Flat lots = 0
+heldLots Long lots = lots
+
 -- "Append a hold, yield absent."
-unfoldable pub newHold : Bar → Head → Hold
-newHold b h = record { time = b .time; pos = h .pos; price = b .price; n1b = Absent }
+unfoldable pub newHold : Bar → Going → Hold
+newHold b g = record { time = b .time; pos = g .head .pos; price = b .price; n1b = Absent; lots = heldLots (g .head .pos) (g .lots) }
+
+-- the open lots: those of the last hold, which the next bar finds
+unfoldable pub openLots : List Hold → ℕ
+openLots [] = 0
+openLots (o ∷ []) = o .lots
+openLots (o ∷ p ∷ os) = openLots (p ∷ os)
 
 -- one accepted bar with its signals
 unfoldable pub step : Sheet → Bar → List Line → State → State
 step s b ls st =
-    let g = stepHead s b ls (st .head) in
-    record { head = g .head; records = st .records ++ g .wrote; holds = settleLast b (st .holds) ++ newHold b (g .head) ∷ [] }
+    let g = stepHead s b ls (openLots (st .holds)) (st .head) in
+    record { head = g .head; records = st .records ++ g .wrote; holds = settleLast b (st .holds) ++ newHold b g ∷ [] }
 
 -- ---- what decided a bar: the record's event, stop or timeout; else the event chosen; else nothing
 

@@ -31,10 +31,11 @@ pub enum Reference {
     At(LastEvent),
 }
 
-// The event that a bar's signals choose: its operate, and its index, by which its name is had.
+// The event that a bar's signals choose: its operate, its index, by which its name is had, and its lots.
 pub struct Choice {
     pub operate: u8,
-    pub event: u32,
+    pub event: u16,
+    pub lots: u16,
 }
 
 // What a bar changes beside the lists of records and holds.
@@ -49,29 +50,31 @@ pub struct Head {
 
 // A record's description: an event by its index, a stop, or a timeout.
 pub enum Description {
-    Event(u32),
+    Event(u16),
     Stop,
     Timeout,
 }
 
-// An operation: an opening or a closing, with the position after it.
+// An operation: an opening or a closing, with the position after it, and the lots opened or closed.
 pub struct Record {
     pub bar: Bar,
     pub operate: u8,
     pub pos: Pos,
     pub description: Description,
+    pub lots: u16,
 }
 
-// The position at the end of a bar, and the yield up to the next bar (the Rust's n1b).
+// The position at the end of a bar, the yield up to the next bar (the Rust's n1b), and the open lots: 0 when Flat.
 pub struct Hold {
     pub time: Time,
     pub pos: Pos,
     pub price: f64,
     pub n1b: Yield,
+    pub lots: u16,
 }
 
-// A pair as a row: its side, both local times, both prices, the id difference, days, the yield, and the lengths of symbol, mark and
-// sequence in the row buffer.
+// A pair as a row: its side, both local times, both prices, the id difference, days, the yield, the lengths of symbol, mark and
+// sequence in the row buffer, and the lots opened.
 pub struct PairRow {
     pub side: Side,
     pub opened: LocalTime,
@@ -84,6 +87,7 @@ pub struct PairRow {
     pub symbol: usize,
     pub mark: usize,
     pub sequence: usize,
+    pub lots: u16,
 }
 
 // A hold as a row: its local time, -1, 0 or 1, its price and its yield.

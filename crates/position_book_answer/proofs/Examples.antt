@@ -37,6 +37,7 @@ pair : pairAnswer (pairDo soy whole (pos 0) (replicate 2048 7) >>= λ p. Got (pa
       symbol = 2;
       mark = 3;
       sequence = 27;
+      lots = 1;
     }
 unfolding opened soy fed firstBar secondBar opening whole
 pair = refl

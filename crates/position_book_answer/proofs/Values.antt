@@ -37,5 +37,6 @@ pub pair-values : (p : PairRow) {s a z i : ℤ} {t : ℕ} {x : Float} → s ≡ 
       symbol = p .symbol;
       mark = p .mark;
       sequence = p .sequence;
+      lots = p .lots;
     } ≡ pairAnswer (Got p)
 pair-values p a b c d e f = rw (a, b, c, d, e, f) refl

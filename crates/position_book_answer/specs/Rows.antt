@@ -64,6 +64,7 @@ pairAnswer (Refused n) =
       symbol = 0;
       mark = 0;
       sequence = 0;
+      lots = 0;
     }
 pairAnswer (Got p) =
     record {
@@ -80,6 +81,7 @@ pairAnswer (Got p) =
       symbol = p .symbol;
       mark = p .mark;
       sequence = p .sequence;
+      lots = p .lots;
     }
 
 abbrev pub holdAnswer : Answer HoldRow → HoldAnswer

@@ -40,8 +40,8 @@ pub struct FeedAnswer {
     pub event: u32,
 }
 
-// A pair row: 1 for L or -1 for S, both local times, both prices, the id difference, days, the yield where it is present, and the lengths
-// of symbol, mark and sequence.
+// A pair row: 1 for L or -1 for S, both local times, both prices, the id difference, days, the yield where it is present, the lengths of symbol,
+// mark and sequence, and the lots opened.
 #[repr(C)]
 pub struct PairAnswer {
     pub number: u32,
@@ -57,6 +57,7 @@ pub struct PairAnswer {
     pub symbol: usize,
     pub mark: usize,
     pub sequence: usize,
+    pub lots: u32,
 }
 
 // A hold row: its local time, -1, 0 or 1, its price, and the yield where it is present.
@@ -109,7 +110,7 @@ fn decision_event(d: Decision) -> u32
 {
     match d {
         Decision::Nothing => 0,
-        Decision::By(why) => description_event(why),
+        Decision::By(why) => description_event(why) as u32,
     }
 }
 
@@ -179,6 +180,7 @@ fn refused_pair(number: u32) -> PairAnswer
         symbol: 0,
         mark: 0,
         sequence: 0,
+        lots: 0,
     }
 }
 
@@ -204,6 +206,7 @@ fn found_pair(p: PairRow) -> PairAnswer
         symbol: p.symbol,
         mark: p.mark,
         sequence: p.sequence,
+        lots: p.lots as u32,
     }
 }
 

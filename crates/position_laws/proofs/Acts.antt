@@ -56,15 +56,15 @@ module _ (s : Sheet) (b : Bar) (c : Choice) where
 
   -- ---- an LO or SO: the bar is its own reference, against which nothing closes
 
-  arrive-refers : (side : Side) (h : Head) → eqb (c .operate) (openOf side) ≡ true → arrive b c h .head .reference ≡ own b c
+  arrive-refers : (side : Side) (lots : ℕ) (h : Head) → eqb (c .operate) (openOf side) ≡ true → arrive b c lots h .head .reference ≡ own b c
   unfolding arrive own
-  arrive-refers Side.Long h e = rw e refl
-  arrive-refers Side.Short h e = rw (differs SO LO refl e, e) refl
+  arrive-refers Side.Long lots h e = rw e refl
+  arrive-refers Side.Short lots h e = rw (differs SO LO refl e, e) refl
 
   opening-refers : (side : Side) (g : Going) → g .head .reference ≡ own b c → opening s b c side g .head .reference ≡ own b c
   unfolding write
   opening-refers side g e =
-      opening-keeps (λ (x : Going). x .head .reference ≡ own b c) s b c (λ operate p d x e. e) (λ side x e. now-reference side b x ∙ e) side g e
+      opening-keeps (λ (x : Going). x .head .reference ≡ own b c) s b c (λ side x _ e. now-reference side b x ∙ e) (λ side d x _ e. e) side g e
 
   closeOn-own : (side : Side) (g : Going) → eqb (c .operate) (closeOf side) ≡ false → closeOn s b c side (own b c) g ≡ g
   unfolding stopped timedOut own
@@ -82,22 +82,22 @@ module _ (s : Sheet) (b : Bar) (c : Choice) where
   openings Side.Long g e = opening-other Side.Short (opening s b c Side.Long g) (differs LO SO refl e)
   openings Side.Short g e = ap (opening s b c Side.Short) (opening-other Side.Long g (differs SO LO refl e))
 
-  pub going-opens : (side : Side) (h : Head) → eqb (c .operate) (openOf side) ≡ true → going s b c h ≡ openOrClose s b c side (arrive b c h)
+  pub going-opens : (side : Side) (lots : ℕ) (h : Head) → eqb (c .operate) (openOf side) ≡ true → going s b c lots h ≡ openOrClose s b c side (arrive b c lots h)
   unfolding going opening
-  going-opens side h e =
-      let g = opening s b c side (arrive b c h) in
-      let r = opening-refers side (arrive b c h) (arrive-refers side h e) in
+  going-opens side lots h e =
+      let g = opening s b c side (arrive b c lots h) in
+      let r = opening-refers side (arrive b c lots h) (arrive-refers side lots h e) in
       let no : (x : Side) → eqb (c .operate) (closeOf x) ≡ false = λ x. differs (openOf side) (closeOf x) (open-no-close side x) e in
-      ap (λ (x : Going). closing s b c Side.Short (closing s b c Side.Long x)) (openings side (arrive b c h) e)
+      ap (λ (x : Going). closing s b c Side.Short (closing s b c Side.Long x)) (openings side (arrive b c lots h) e)
       ∙ ap (closing s b c Side.Short) (closing-own Side.Long g (no Side.Long) r)
       ∙ closing-own Side.Short g (no Side.Short) r
       ∙ rw e
 
   -- ---- any other operate
 
-  pub going-closes : (h : Head) → eqb (c .operate) LO ≡ false → eqb (c .operate) SO ≡ false
-      → going s b c h ≡ closing s b c Side.Short (closing s b c Side.Long (arrive b c h))
+  pub going-closes : (lots : ℕ) (h : Head) → eqb (c .operate) LO ≡ false → eqb (c .operate) SO ≡ false
+      → going s b c lots h ≡ closing s b c Side.Short (closing s b c Side.Long (arrive b c lots h))
   unfolding going
-  going-closes h e f =
+  going-closes lots h e f =
       ap (λ (x : Going). closing s b c Side.Short (closing s b c Side.Long x))
-      (ap (opening s b c Side.Short) (opening-other Side.Long (arrive b c h) e) ∙ opening-other Side.Short (arrive b c h) f)
+      (ap (opening s b c Side.Short) (opening-other Side.Long (arrive b c lots h) e) ∙ opening-other Side.Short (arrive b c lots h) f)

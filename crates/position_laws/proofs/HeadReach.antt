@@ -87,9 +87,9 @@ abbrev Fine : Sheet → Bar → Going → Type 0
 Fine s b g = (g .head .end ≡ b .time) × HeadOk s (g .head)
 
 module _ (s : Sheet) (b : Bar) (ok : BarOk b) where
-  write-fine : (operate : ℕ) (p : Pos) (d : Description) (g : Going) → Fine s b g → Fine s b (write b operate p d g)
+  write-fine : (operate : ℕ) (p : Pos) (d : Description) (lots : ℕ) (g : Going) → Fine s b g → Fine s b (write b operate p d lots g)
   unfolding write
-  write-fine operate p d g f = (f .0, record { end = f .1 .end; long = f .1 .long; short = f .1 .short; reference = f .1 .reference })
+  write-fine operate p d lots g f = (f .0, record { end = f .1 .end; long = f .1 .long; short = f .1 .short; reference = f .1 .reference })
 
   now-fine : (side : Side) (g : Going) → Fine s b g → Fine s b (openNow side b g)
   now-fine Side.Long g f =
@@ -121,9 +121,9 @@ module _ (s : Sheet) (b : Bar) (ok : BarOk b) where
           }
       go false e = k
 
-  pub head-reach : (ls : List Line) (h : Head) → Past s (b .time) h → HeadOk s (stepHead s b ls h .head)
+  pub head-reach : (ls : List Line) (lots : ℕ) (h : Head) → Past s (b .time) h → HeadOk s (stepHead s b ls lots h .head)
   unfolding stepHead arrive
-  head-reach ls h p =
-      going-keeps (Fine s b) s b (choose s ls) write-fine now-fine h
+  head-reach ls lots h p =
+      going-keeps (Fine s b) s b (choose s ls) (λ side g _ f. write-fine _ _ _ _ _ (now-fine side g f)) (λ side d g _ f. write-fine _ _ _ _ g f) lots h
       (refl, record { end = ok .time; long = p .long; short = p .short; reference = refers ls (h .reference) (p .reference) })
       .1

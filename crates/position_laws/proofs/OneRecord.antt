@@ -74,7 +74,7 @@ event-known s ls t = chosen (firstMatch (s .events) ls) t
 
 -- ---- the two sides
 
-open-trades : (side : Side) → trades (openOf side) ≡ true
+pub open-trades : (side : Side) → trades (openOf side) ≡ true
 open-trades Side.Long = refl
 open-trades Side.Short = refl
 
@@ -92,9 +92,9 @@ now-wrote Side.Short b g = refl
 abbrev Quiet : Going → Type 0
 Quiet g = (g .wrote ≡ []) × (g .head .changed ≡ false)
 
-arrive-quiet : (b : Bar) (c : Choice) (h : Head) → Quiet (arrive b c h)
+arrive-quiet : (b : Bar) (c : Choice) (lots : ℕ) (h : Head) → Quiet (arrive b c lots h)
 unfolding arrive
-arrive-quiet b c h = (refl, refl)
+arrive-quiet b c lots h = (refl, refl)
 
 abbrev Says : Sheet → Bar → Going → Type 0
 Says s b g = Written s b (g .head) (g .wrote)
@@ -111,13 +111,13 @@ module _ (s : Sheet) (b : Bar) where
   calm-says g (inl q) = quiet-says g q
   calm-says g (inr h) = h .0
 
-  write-says : (operate : ℕ) (p : Pos) (d : Description) (g : Going) → g .wrote ≡ [] → trades operate ≡ true → Named s d → Says s b (write b operate p d g)
+  write-says : (operate : ℕ) (p : Pos) (d : Description) (lots : ℕ) (g : Going) → g .wrote ≡ [] → trades operate ≡ true → Named s d → Says s b (write b operate p d lots g)
   unfolding write
-  write-says operate p d g e t n = rw e (record { changed = refl; bar = refl; pos = refl; operate = t; named = n })
+  write-says operate p d lots g e t n = rw e (record { changed = refl; bar = refl; pos = refl; operate = t; named = n })
 
-  close-calm : (side : Side) (d : Description) (g : Going) → Quiet g → Named s d → Calm s b (write b (closeOf side) Flat d g)
+  close-calm : (side : Side) (d : Description) (g : Going) → Quiet g → Named s d → Calm s b (write b (closeOf side) Flat d (g .lots) g)
   unfolding write
-  close-calm side d g q n = inr (write-says (closeOf side) Flat d g (q .0) (close-trades side) n, refl)
+  close-calm side d g q n = inr (write-says (closeOf side) Flat d (g .lots) g (q .0) (close-trades side) n, refl)
 
 module _ (s : Sheet) (b : Bar) (c : Choice) (known : trades (c .operate) ≡ true → c .event < length (s .events)) where
   -- ---- opening writes one record at most
@@ -127,9 +127,9 @@ module _ (s : Sheet) (b : Bar) (c : Choice) (known : trades (c .operate) ≡ tru
   opening-says side g e q =
       let n = known (ap trades (eqb-true (c .operate) (openOf side) e) ∙ open-trades side) in
       both (Says s b) (allowed s b (lastOpen side (g .head)) && not (on side (g .head .pos))) _ _
-      (write-says s b (openOf side) (posOf side) (ByEvent (c .event)) (openNow side b g) (now-wrote side b g ∙ q .0) (open-trades side) n)
+      (write-says s b (openOf side) (posOf side) (ByEvent (c .event)) (c .lots) (openNow side b g) (now-wrote side b g ∙ q .0) (open-trades side) n)
       (both (Says s b) (on (other side) (g .head .pos) && mayClose s b (lastOpen (other side) (g .head))) _ g
-      (write-says s b (closeOf (other side)) Flat (ByEvent (c .event)) g (q .0) (close-trades (other side)) n)
+      (write-says s b (closeOf (other side)) Flat (ByEvent (c .event)) (g .lots) g (q .0) (close-trades (other side)) n)
       (quiet-says s b g q))
 
   -- ---- the first closing that writes leaves Flat, so no other does
@@ -139,8 +139,8 @@ module _ (s : Sheet) (b : Bar) (c : Choice) (known : trades (c .operate) ≡ tru
   closeOn-calm side (Reference.At r) g q = go (eqb (c .operate) (closeOf side)) refl
     where
       go : (t : Bool) → eqb (c .operate) (closeOf side) ≡ t
-          → Calm s b (cond t (write b (closeOf side) Flat (ByEvent (c .event)) g)
-          (cond (stopped s side b r) (write b (closeOf side) Flat Stop g) (cond (timedOut s b r) (write b (closeOf side) Flat Timeout g) g)))
+          → Calm s b (cond t (write b (closeOf side) Flat (ByEvent (c .event)) (g .lots) g)
+          (cond (stopped s side b r) (write b (closeOf side) Flat Stop (g .lots) g) (cond (timedOut s b r) (write b (closeOf side) Flat Timeout (g .lots) g) g)))
       go true e = close-calm s b side (ByEvent (c .event)) g q (known (ap trades (eqb-true (c .operate) (closeOf side) e) ∙ close-trades side))
       go false e =
           both (Calm s b) (stopped s side b r) _ _ (close-calm s b side Stop g q tt)
@@ -154,30 +154,30 @@ module _ (s : Sheet) (b : Bar) (c : Choice) (known : trades (c .operate) ≡ tru
 
   -- ---- the whole step
 
-  opens-says : (side : Side) (h : Head) → eqb (c .operate) (openOf side) ≡ true → Says s b (going s b c h)
-  opens-says side h e = subst (Says s b) (sym (going-opens s b c side h e)) (opening-says side (arrive b c h) e (arrive-quiet b c h))
+  opens-says : (side : Side) (lots : ℕ) (h : Head) → eqb (c .operate) (openOf side) ≡ true → Says s b (going s b c lots h)
+  opens-says side lots h e = subst (Says s b) (sym (going-opens s b c side lots h e)) (opening-says side (arrive b c lots h) e (arrive-quiet b c lots h))
 
-  closes-says : (h : Head) → eqb (c .operate) LO ≡ false → eqb (c .operate) SO ≡ false → Says s b (going s b c h)
-  closes-says h e f =
-      let g = closing s b c Side.Long (arrive b c h) in
-      subst (Says s b) (sym (going-closes s b c h e f))
-      (calm-says s b (closing s b c Side.Short g) (closing-calm Side.Short g (closing-calm Side.Long (arrive b c h) (inl (arrive-quiet b c h)))))
+  closes-says : (lots : ℕ) (h : Head) → eqb (c .operate) LO ≡ false → eqb (c .operate) SO ≡ false → Says s b (going s b c lots h)
+  closes-says lots h e f =
+      let g = closing s b c Side.Long (arrive b c lots h) in
+      subst (Says s b) (sym (going-closes s b c lots h e f))
+      (calm-says s b (closing s b c Side.Short g) (closing-calm Side.Short g (closing-calm Side.Long (arrive b c lots h) (inl (arrive-quiet b c lots h)))))
 
-  going-says : (h : Head) (l t : Bool) → eqb (c .operate) LO ≡ l → eqb (c .operate) SO ≡ t → Says s b (going s b c h)
-  going-says h true t e f = opens-says Side.Long h e
-  going-says h false true e f = opens-says Side.Short h f
-  going-says h false false e f = closes-says h e f
+  going-says : (lots : ℕ) (h : Head) (l t : Bool) → eqb (c .operate) LO ≡ l → eqb (c .operate) SO ≡ t → Says s b (going s b c lots h)
+  going-says lots h true t e f = opens-says Side.Long lots h e
+  going-says lots h false true e f = opens-says Side.Short lots h f
+  going-says lots h false false e f = closes-says lots h e f
 
-pub recorded : (s : Sheet) (b : Bar) (ls : List Line) (h : Head) → Written s b (stepHead s b ls h .head) (stepHead s b ls h .wrote)
+pub recorded : (s : Sheet) (b : Bar) (ls : List Line) (lots : ℕ) (h : Head) → Written s b (stepHead s b ls lots h .head) (stepHead s b ls lots h .wrote)
 unfolding stepHead
-recorded s b ls h =
+recorded s b ls lots h =
     let c = choose s ls in
-    going-says s b c (event-known s ls) h (eqb (c .operate) LO) (eqb (c .operate) SO) refl refl
+    going-says s b c (event-known s ls) lots h (eqb (c .operate) LO) (eqb (c .operate) SO) refl refl
 
 written-few : (s : Sheet) (b : Bar) (h : Head) (rs : List Record) → Written s b h rs → length rs ≤ 1
 written-few s b h [] w = omega arith
 written-few s b h (r ∷ []) w = omega arith
 written-few s b h (r ∷ q ∷ rs) w = absurd w
 
-pub one-record : (s : Sheet) (b : Bar) (ls : List Line) (h : Head) → length (stepHead s b ls h .wrote) ≤ 1
-one-record s b ls h = written-few s b (stepHead s b ls h .head) (stepHead s b ls h .wrote) (recorded s b ls h)
+pub one-record : (s : Sheet) (b : Bar) (ls : List Line) (lots : ℕ) (h : Head) → length (stepHead s b ls lots h .wrote) ≤ 1
+one-record s b ls lots h = written-few s b (stepHead s b ls lots h .head) (stepHead s b ls lots h .wrote) (recorded s b ls lots h)

@@ -26,10 +26,10 @@ use Rattle.double.proofs.Numbers.{hold-number}
 use Rattle.bar.specs.Bar.{lastId, idOk, instantOk, offsetOk, barOf}
 use Rattle.bar.specs.declared.Time.{Time}
 use Rattle.bar.specs.declared.Bar.{Bar}
-use Rattle.sheet.specs.Sheet.{Sheet}
+use Rattle.sheet.specs.Sheet.{Sheet, lotsOk}
 use Rattle.event.specs.Signals.{Line, readSignals}
 use Rattle.position.specs.State.{State, freshHead, freshState}
-use Rattle.position.specs.Step.{Fed, stepHead, settle, settleLast, newHold, step}
+use Rattle.position.specs.Step.{Going, Fed, stepHead, settle, settleLast, newHold, openLots, step}
 use Rattle.position.specs.Feed.{Input, fedOf, admitted, Accepted, reportOf, feedState}
 use Rattle.position.specs.declared.Head.{Head}
 use Rattle.position.specs.declared.Record.{Record}
@@ -37,6 +37,7 @@ use Rattle.position.specs.declared.Hold.{Hold}
 use Rattle.position_laws.proofs.OneRecord.{Written, recorded}
 use Rattle.position_laws.proofs.Steps.{end-now, holds-grow, records-grow}
 use Rattle.position_laws.proofs.Sound.{By, Before, Rising, BarOk, YieldOk, HoldOk, RecordOk, holdTime, recordTime, Ends, Sound}
+use Rattle.position_laws.proofs.Lots.{EventLots, Carried, carries, held, lots-kept}
 use Rattle.position_laws.proofs.HeadReach.{by-self, by-before, before-by, Past, past-fresh, past-later, head-reach}
 
 -- ---- what a feed's arguments give
@@ -121,7 +122,7 @@ settled-more b (p ∷ q ∷ u ∷ os) o n r h = (r .0, settled-more b (q ∷ u �
 
 record Prior (s : Sheet) (b : Bar) (st : State) : Type 0 where
   head : Past s (b .time) (st .head)
-  holds : (h : Head) → Rising holdTime (settleLast b (st .holds) ++ newHold b h ∷ [])
+  holds : (g : Going) → Rising holdTime (settleLast b (st .holds) ++ newHold b g ∷ [])
   records : Forall (λ r. Before (recordTime r) (b .time)) (st .records)
 
 filled : (os : List Hold) (o : Hold) (t : Bool) → (eqb (length (os ++ o ∷ [])) 0 || t) ≡ true → t ≡ true
@@ -134,12 +135,12 @@ unfolding freshState settleLast newHold Forall
 prior s b st w t = go (w .ends)
   where
     go : (st ≡ freshState) ⊎ Ends st → Prior s b st
-    go (inl e) = subst (Prior s b) (sym e) (record { head = past-fresh s (b .time); holds = λ h. tt; records = tt })
+    go (inl e) = subst (Prior s b) (sym e) (record { head = past-fresh s (b .time); holds = λ g. tt; records = tt })
     go (inr e) =
         let now : Before (st .head .end) (b .time) = filled (e .front) (e .last) (ltZ (st .head .end .instant .0) (b .time .instant .0)) (rw (e .whole) at t) in
         record {
           head = past-later s (b .time) (st .head) (w .head) now;
-          holds = λ h. rw (e .whole) (settled-more b (e .front) (e .last) (newHold b h) (rw (e .whole) at (w .holdsRise)) (rw (e .time) now));
+          holds = λ g. rw (e .whole) (settled-more b (e .front) (e .last) (newHold b g) (rw (e .whole) at (w .holdsRise)) (rw (e .time) now));
           records = Forall·imp (λ r k. by-before (recordTime r) (st .head .end) (b .time) k now) (st .records) (w .recordsPast);
         }
 
@@ -159,17 +160,17 @@ yield-ok own next e = go (lt (whole 0) own) (hold-number own next (passes (finit
 settled-ok : (b : Bar) (os : List Hold) → BarOk b → Forall HoldOk os → Forall HoldOk (settleLast b os)
 unfolding settleLast settle Forall
 settled-ok b [] ok h = tt
-settled-ok b (o ∷ []) ok h = record { time = h .time; price = h .price; double = h .double; n1b = yield-ok (o .price) (b .price) (ok .price) }
+settled-ok b (o ∷ []) ok h = record { time = h .time; price = h .price; double = h .double; n1b = yield-ok (o .price) (b .price) (ok .price); lots = h .lots }
 settled-ok b (o ∷ p ∷ os) ok h = forall-cons HoldOk o (settleLast b (p ∷ os)) .1 (h .0, settled-ok b (p ∷ os) ok (h .1))
 
 -- ---- records
 
 module _ (s : Sheet) (b : Bar) (h : Head) where
-  written-ok : (rs : List Record) → BarOk b → Written s b h rs → Forall (RecordOk s) rs
+  written-ok : (rs : List Record) → BarOk b → Written s b h rs → Forall (λ r. lotsOk (r .lots) ≡ true) rs → Forall (RecordOk s) rs
   unfolding Forall
-  written-ok [] ok w = tt
-  written-ok (r ∷ []) ok w = record { bar = subst BarOk (sym (w .bar)) ok; operate = w .operate; named = w .named }
-  written-ok (r ∷ q ∷ rs) ok w = absurd w
+  written-ok [] ok w n = tt
+  written-ok (r ∷ []) ok w n = record { bar = subst BarOk (sym (w .bar)) ok; operate = w .operate; named = w .named; lots = n }
+  written-ok (r ∷ q ∷ rs) ok w n = absurd w
 
   written-now : (rs : List Record) → Written s b h rs → Forall (λ r. By (b .time) (recordTime r)) rs
   unfolding Forall
@@ -183,24 +184,44 @@ module _ (s : Sheet) (b : Bar) (h : Head) where
   written-rise old (q ∷ []) w r k = rising-more recordTime old q r (rw (w .bar) k)
   written-rise old (q ∷ p ∷ rs) w r k = absurd w
 
+-- ---- the open lots
+
+pub last-lots : (os : List Hold) (o : Hold) → openLots (os ++ o ∷ []) ≡ o .lots
+unfolding openLots
+last-lots [] o = refl
+last-lots (p ∷ []) o = refl
+last-lots (p ∷ q ∷ os) o = last-lots (q ∷ os) o
+
+open-carried : (s : Sheet) (st : State) → Sound s st → Carried (st .head .pos) (openLots (st .holds))
+unfolding freshState freshHead Forall
+open-carried s st w = go (w .ends)
+  where
+    go : (st ≡ freshState) ⊎ Ends st → Carried (st .head .pos) (openLots (st .holds))
+    go (inl e) = subst (λ (x : State). Carried (x .head .pos) (openLots (x .holds))) (sym e) tt
+    go (inr e) =
+        let last = forall-append HoldOk (e .front) (e .last ∷ []) .0 (rw (e .whole) at (w .holds)) .1 in
+        rw (e .whole, last-lots (e .front) (e .last), ← e .pos) (carries (e .last .pos) (e .last .lots) (last .lots))
+
 -- ---- one bar
 
-pub sound-step : (s : Sheet) (b : Bar) (ls : List Line) (st : State) → Sound s st → BarOk b
+pub sound-step : (s : Sheet) (b : Bar) (ls : List Line) (st : State) → EventLots s → Sound s st → BarOk b
     → (eqb (length (st .holds)) 0 || ltZ (st .head .end .instant .0) (b .time .instant .0)) ≡ true → Sound s (step s b ls st)
 unfolding step newHold Forall
-sound-step s b ls st w ok t =
-    let g = stepHead s b ls (st .head) in
-    let new = newHold b (g .head) in
+sound-step s b ls st sheet w ok t =
+    let lots = openLots (st .holds) in
+    let g = stepHead s b ls lots (st .head) in
+    let new = newHold b g in
     let old = prior s b st w t in
-    let said = recorded s b ls (st .head) in
+    let said = recorded s b ls lots (st .head) in
+    let sized = lots-kept s b ls sheet lots (st .head) (open-carried s st w) in
     record {
-      head = head-reach s b ok ls (st .head) (old .head);
+      head = head-reach s b ok ls lots (st .head) (old .head);
       holds = forall-append HoldOk (settleLast b (st .holds)) (new ∷ []) .1
-          (settled-ok b (st .holds) ok (w .holds), record { time = ok .time; price = ok .price; double = ok .double; n1b = tt });
-      holdsRise = old .holds (g .head);
-      records = forall-append (RecordOk s) (st .records) (g .wrote) .1 (w .records, written-ok s b (g .head) (g .wrote) ok said);
+          (settled-ok b (st .holds) ok (w .holds), record { time = ok .time; price = ok .price; double = ok .double; n1b = tt; lots = held (g .head .pos) (g .lots) (sized .0) });
+      holdsRise = old .holds g;
+      records = forall-append (RecordOk s) (st .records) (g .wrote) .1 (w .records, written-ok s b (g .head) (g .wrote) ok said (sized .1));
       recordsRise = written-rise s b (g .head) (st .records) (g .wrote) said (w .recordsRise) (old .records);
-      recordsPast = rw (end-now s b ls (st .head))
+      recordsPast = rw (end-now s b ls lots (st .head))
           (forall-append (λ r. By (b .time) (recordTime r)) (st .records) (g .wrote) .1
           (Forall·imp (λ r k. before-by (recordTime r) (b .time) k) (st .records) (old .records), written-now s b (g .head) (g .wrote) said));
       few = omega (arith, w .few, records-grow s b ls st, holds-grow s b ls st);
@@ -208,7 +229,7 @@ sound-step s b ls st w ok t =
         front = settleLast b (st .holds);
         last = new;
         whole = refl;
-        time = sym (end-now s b ls (st .head));
+        time = sym (end-now s b ls lots (st .head));
         pos = refl;
         n1b = refl;
       });
@@ -227,14 +248,14 @@ pub record Stepped (s : Sheet) (c : ℕ) (i : Input) (st after : State) : Type 0
 pub feed-steps : (s : Sheet) (c : ℕ) (i : Input) (st : State) (a : Accepted State) → feedState s c i st ≡ Got a → Stepped s c i st (a .after)
 unfolding feedState
 feed-steps s c i st a e =
-    let made : Fed → Accepted State = λ f. record { after = step s (f .bar) (f .signals) st; report = reportOf s f (st .head) } in
+    let made : Fed → Accepted State = λ f. record { after = step s (f .bar) (f .signals) st; report = reportOf s f st } in
     let x = got-from (admitted c (length (st .holds)) (st .head .end) i) (λ f. Got (made f)) a e in
     let k = admitted-got c (length (st .holds)) (st .head .end) i (x .0) (x .1) in
     record { fed = x .0; given = k .0; later = k .1; room = k .2; stepped = ap (λ (y : Accepted State). y .after) (sym (got-same (made (x .0)) a (x .2))) }
 
-pub sound-feed : (s : Sheet) (c : ℕ) (i : Input) (st : State) (a : Accepted State) → Sound s st → T (fits binary64 (i .price))
+pub sound-feed : (s : Sheet) (c : ℕ) (i : Input) (st : State) (a : Accepted State) → EventLots s → Sound s st → T (fits binary64 (i .price))
     → feedState s c i st ≡ Got a → Sound s (a .after)
-sound-feed s c i st a w double e =
+sound-feed s c i st a sheet w double e =
     let x = feed-steps s c i st a e in
     let f = x .fed in
-    rw (x .stepped) (sound-step s (f .bar) (f .signals) st w (fed-ok i f (x .given) double) (x .later))
+    rw (x .stepped) (sound-step s (f .bar) (f .signals) st sheet w (fed-ok i f (x .given) double) (x .later))

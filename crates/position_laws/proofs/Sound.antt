@@ -1,5 +1,5 @@
 -- What every state has that bars can reach: its values are in range, its lists rise, and its last hold is the head's. Assumes nothing.
-use Prim.Native.Nat.{_≤_, _<_}
+use Prim.Native.Nat.{ℕ, _≤_, _<_}
 use mathlib.Core.Bool.{true, false, _||_}
 use mathlib.Core.List.{List, [], _∷_, _++_}
 use mathlib.Core.Logic.{_⊎_}
@@ -16,8 +16,10 @@ use Rattle.operate.specs.Operate.{LO, SO}
 use Rattle.bar.specs.Bar.{lastId, timeOk}
 use Rattle.bar.specs.declared.Time.{Time}
 use Rattle.bar.specs.declared.Bar.{Bar}
-use Rattle.sheet.specs.Sheet.{Sheet}
+use Rattle.sheet.specs.Sheet.{Sheet, lotsOk}
 use Rattle.position.specs.State.{State, freshState, trades}
+use Rattle.position.specs.declared.Pos.{Pos}
+use Rattle.position.specs.declared.Pos.the-variants.{Short, Flat, Long}
 use Rattle.position.specs.declared.Open.{Open}
 use Rattle.position.specs.declared.Open.the-variants as Open
 use Rattle.position.specs.declared.LastEvent.{LastEvent}
@@ -57,16 +59,24 @@ abbrev pub YieldOk : Yield → Type 0
 YieldOk Absent = Unit {0}
 YieldOk (Bp x) = (isNan x ≡ false) × T (fits binary64 x)
 
+-- the lots of a hold: "0 when Flat", else in range
+abbrev pub LotsFor : Pos → ℕ → Type 0
+LotsFor Short n = lotsOk n ≡ true
+LotsFor Flat n = n ≡ 0
+LotsFor Long n = lotsOk n ≡ true
+
 pub record HoldOk (o : Hold) : Type 0 where
   pub time : timeOk (o .time) ≡ true
   pub price : finite (o .price) ≡ true
   pub double : T (fits binary64 (o .price))
   pub n1b : YieldOk (o .n1b)
+  pub lots : LotsFor (o .pos) (o .lots)
 
 pub record RecordOk (s : Sheet) (r : Record) : Type 0 where
   pub bar : BarOk (r .bar)
   pub operate : trades (r .operate) ≡ true
   pub named : Named s (r .description)
+  pub lots : lotsOk (r .lots) ≡ true
 
 -- ---- the head, whose end is `end`
 

@@ -1,5 +1,5 @@
 -- What a bar adds to a state: one hold, at most one record, its time as the end; and how many a list of bars adds. Assumes nothing.
-use Prim.Native.Nat.{suc, _+_, _≤_}
+use Prim.Native.Nat.{ℕ, suc, _+_, _≤_}
 use native.Mathlib.Omega.{arith}
 use mathlib.Core.Bool.{Bool, true, false}
 use mathlib.Core.List.{List, [], _∷_, _++_}
@@ -11,7 +11,7 @@ use Rattle.bar.specs.declared.Bar.{Bar}
 use Rattle.sheet.specs.Sheet.{Sheet}
 use Rattle.event.specs.Signals.{Line}
 use Rattle.position.specs.State.{State, freshState}
-use Rattle.position.specs.Step.{Going, Fed, choose, write, openNow, arrive, stepHead, settleLast, step, plainFrom, plain}
+use Rattle.position.specs.Step.{Going, Fed, choose, write, openNow, arrive, stepHead, settleLast, openLots, step, plainFrom, plain}
 use Rattle.position.specs.declared.Head.{Head}
 use Rattle.position.specs.declared.Record.{Record}
 use Rattle.position.specs.declared.Hold.{Hold}
@@ -24,19 +24,19 @@ now-end : (side : Side) (b : Bar) (g : Going) → openNow side b g .head .end �
 now-end Side.Long b g = refl
 now-end Side.Short b g = refl
 
-pub end-now : (s : Sheet) (b : Bar) (ls : List Line) (h : Head) → stepHead s b ls h .head .end ≡ b .time
+pub end-now : (s : Sheet) (b : Bar) (ls : List Line) (lots : ℕ) (h : Head) → stepHead s b ls lots h .head .end ≡ b .time
 unfolding stepHead arrive write
-end-now s b ls h =
-    going-keeps (λ (g : Going). g .head .end ≡ b .time) s b (choose s ls) (λ operate p d g e. e) (λ side g e. now-end side b g ∙ e) h refl
+end-now s b ls lots h =
+    going-keeps (λ (g : Going). g .head .end ≡ b .time) s b (choose s ls) (λ side g _ e. now-end side b g ∙ e) (λ side d g _ e. e) lots h refl
 
 abbrev pub notEmpty : List Record → Bool
 notEmpty [] = false
 notEmpty (r ∷ rs) = true
 
-pub changed-iff : (s : Sheet) (b : Bar) (ls : List Line) (h : Head) → stepHead s b ls h .head .changed ≡ notEmpty (stepHead s b ls h .wrote)
-changed-iff s b ls h = go (stepHead s b ls h .wrote) (recorded s b ls h)
+pub changed-iff : (s : Sheet) (b : Bar) (ls : List Line) (lots : ℕ) (h : Head) → stepHead s b ls lots h .head .changed ≡ notEmpty (stepHead s b ls lots h .wrote)
+changed-iff s b ls lots h = go (stepHead s b ls lots h .wrote) (recorded s b ls lots h)
   where
-    go : (rs : List Record) → Written s b (stepHead s b ls h .head) rs → stepHead s b ls h .head .changed ≡ notEmpty rs
+    go : (rs : List Record) → Written s b (stepHead s b ls lots h .head) rs → stepHead s b ls lots h .head .changed ≡ notEmpty rs
     go [] w = w
     go (r ∷ []) w = w .changed
     go (r ∷ q ∷ rs) w = absurd w
@@ -55,7 +55,7 @@ holds-grow s b ls st = rw (length-append, settled-many b (st .holds)) refl
 
 pub records-grow : (s : Sheet) (b : Bar) (ls : List Line) (st : State) → length (step s b ls st .records) ≤ length (st .records) + 1
 unfolding step
-records-grow s b ls st = rw length-append (omega (arith, one-record s b ls (st .head)))
+records-grow s b ls st = rw length-append (omega (arith, one-record s b ls (openLots (st .holds)) (st .head)))
 
 -- ---- a list of bars
 

@@ -34,9 +34,9 @@ module _ (s : Sheet) (b : Bar) (c : Choice) where
   unfolding closing
   closing-own side g = rw (closeOn-own side (g .head .reference) g)
 
-  going-own : (h : Head) → going s b c h ≡ goingBy (stopped s) s b c h
+  going-own : (lots : ℕ) (h : Head) → going s b c lots h ≡ goingBy (stopped s) s b c lots h
   unfolding going
-  going-own h = rw (closing-own, closing-own)
+  going-own lots h = rw (closing-own, closing-own)
 
 plain-own : (s : Sheet) (st : State) (fs : List Fed) → plainFrom s st fs ≡ plainFromBy (stopped s) s st fs
 unfolding plainFrom plainFromBy step stepHead

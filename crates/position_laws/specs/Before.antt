@@ -10,7 +10,7 @@ use Rattle.bar.specs.declared.Bar.{Bar}
 use Rattle.sheet.specs.Sheet.{Sheet}
 use Rattle.event.specs.Signals.{Line}
 use Rattle.position.specs.State.{State, freshState}
-use Rattle.position.specs.Step.{Going, Fed, closeOf, on, lastOpen, choose, mayClose, timedOut, write, arrive, opening, settleLast, newHold}
+use Rattle.position.specs.Step.{Going, Fed, closeOf, on, lastOpen, choose, mayClose, timedOut, write, arrive, opening, settleLast, newHold, openLots}
 use Rattle.position.specs.declared.Pos.the-variants.{Flat}
 use Rattle.position.specs.declared.Choice.{Choice}
 use Rattle.position.specs.declared.LastEvent.{LastEvent}
@@ -32,23 +32,23 @@ wholeTest w side b r = stopHit side (whole w) (r .bar .price) (b .price)
 abbrev pub closeOnBy : Test → Sheet → Bar → Choice → Side → Reference → Going → Going
 closeOnBy hit s b c side Reference.Never g = g
 closeOnBy hit s b c side (Reference.At r) g =
-    cond (eqb (c .operate) (closeOf side)) (write b (closeOf side) Flat (ByEvent (c .event)) g)
-    (cond (hit side b r) (write b (closeOf side) Flat Stop g)
-    (cond (timedOut s b r) (write b (closeOf side) Flat Timeout g) g))
+    cond (eqb (c .operate) (closeOf side)) (write b (closeOf side) Flat (ByEvent (c .event)) (g .lots) g)
+    (cond (hit side b r) (write b (closeOf side) Flat Stop (g .lots) g)
+    (cond (timedOut s b r) (write b (closeOf side) Flat Timeout (g .lots) g) g))
 
 abbrev pub closingBy : Test → Sheet → Bar → Choice → Side → Going → Going
 closingBy hit s b c side g =
     let h = g .head in
     cond (on side (h .pos) && mayClose s b (lastOpen side h)) (closeOnBy hit s b c side (h .reference) g) g
 
-abbrev pub goingBy : Test → Sheet → Bar → Choice → Head → Going
-goingBy hit s b c h =
-    closingBy hit s b c Side.Short (closingBy hit s b c Side.Long (opening s b c Side.Short (opening s b c Side.Long (arrive b c h))))
+abbrev pub goingBy : Test → Sheet → Bar → Choice → ℕ → Head → Going
+goingBy hit s b c lots h =
+    closingBy hit s b c Side.Short (closingBy hit s b c Side.Long (opening s b c Side.Short (opening s b c Side.Long (arrive b c lots h))))
 
 abbrev pub stepBy : Test → Sheet → Bar → List Line → State → State
 stepBy hit s b ls st =
-    let g = goingBy hit s b (choose s ls) (st .head) in
-    record { head = g .head; records = st .records ++ g .wrote; holds = settleLast b (st .holds) ++ newHold b (g .head) ∷ [] }
+    let g = goingBy hit s b (choose s ls) (openLots (st .holds)) (st .head) in
+    record { head = g .head; records = st .records ++ g .wrote; holds = settleLast b (st .holds) ++ newHold b g ∷ [] }
 
 unfoldable pub plainFromBy : Test → Sheet → State → List Fed → State
 plainFromBy hit s st [] = st

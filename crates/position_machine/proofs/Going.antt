@@ -42,24 +42,25 @@ module _ (t : List ℕ) (b : Bar) (c : Choice) where
   unfolding closing sheetOf partsIn
   closing-same side g = rw (closeOn-same side (g .head .reference) g) refl
 
-  pub settings-only : (h : Head) → going (sheetOf (partsIn t)) b c h ≡ going (ofSettings (settingsIn t)) b c h
+  pub settings-only : (lots : ℕ) (h : Head) → going (sheetOf (partsIn t)) b c lots h ≡ going (ofSettings (settingsIn t)) b c lots h
   unfolding going
-  settings-only h =
+  settings-only lots h =
       let s = sheetOf (partsIn t) in
       let k = ofSettings (settingsIn t) in
-      let o = opening k b c Side.Short (opening k b c Side.Long (arrive b c h)) in
-      ap (λ (x : Going). closing s b c Side.Short (closing s b c Side.Long (opening s b c Side.Short x))) (opening-same Side.Long (arrive b c h))
-      ∙ ap (λ (x : Going). closing s b c Side.Short (closing s b c Side.Long x)) (opening-same Side.Short (opening k b c Side.Long (arrive b c h)))
+      let o = opening k b c Side.Short (opening k b c Side.Long (arrive b c lots h)) in
+      ap (λ (x : Going). closing s b c Side.Short (closing s b c Side.Long (opening s b c Side.Short x))) (opening-same Side.Long (arrive b c lots h))
+      ∙ ap (λ (x : Going). closing s b c Side.Short (closing s b c Side.Long x)) (opening-same Side.Short (opening k b c Side.Long (arrive b c lots h)))
       ∙ ap (closing s b c Side.Short) (closing-same Side.Long o)
       ∙ closing-same Side.Short (closing k b c Side.Long o)
 
 -- ---- what a bar writes and refers to
 
-pub update-bar : (s : Sheet) (b : Bar) (c : Choice) (h : Head) (r : Record) → going s b c h .wrote ≡ r ∷ [] → r .bar ≡ b
+pub update-bar : (s : Sheet) (b : Bar) (c : Choice) (lots : ℕ) (h : Head) (r : Record) → going s b c lots h .wrote ≡ r ∷ [] → r .bar ≡ b
 unfolding arrive write Forall
-update-bar s b c h r e =
+update-bar s b c lots h r e =
     subst (Forall Own) e
-    (going-keeps (λ (g : Going). Forall Own (g .wrote)) s b c (λ operate p d g k. forall-append Own (g .wrote) _ .1 (k, refl)) noted h tt)
+    (going-keeps (λ (g : Going). Forall Own (g .wrote)) s b c (λ side g _ k. forall-append Own (openNow side b g .wrote) _ .1 (noted side g k, refl))
+    (λ side d g _ k. forall-append Own (g .wrote) _ .1 (k, refl)) lots h tt)
   where
     Own : Record → Type 0
     Own r = r .bar ≡ b
@@ -68,10 +69,10 @@ update-bar s b c h r e =
     noted Side.Long g k = k
     noted Side.Short g k = k
 
-pub going-reference : (s : Sheet) (b : Bar) (c : Choice) (h : Head) → going s b c h .head .reference ≡ referenceFor b c (h .reference)
+pub going-reference : (s : Sheet) (b : Bar) (c : Choice) (lots : ℕ) (h : Head) → going s b c lots h .head .reference ≡ referenceFor b c (h .reference)
 unfolding arrive write
-going-reference s b c h =
-    going-keeps (λ (g : Going). g .head .reference ≡ referenceFor b c (h .reference)) s b c (λ operate p d g e. e) noted h refl
+going-reference s b c lots h =
+    going-keeps (λ (g : Going). g .head .reference ≡ referenceFor b c (h .reference)) s b c (λ side g _ e. noted side g e) (λ side d g _ e. e) lots h refl
   where
     noted : (side : Side) (g : Going) → g .head .reference ≡ referenceFor b c (h .reference) → openNow side b g .head .reference ≡ referenceFor b c (h .reference)
     noted Side.Long g e = e

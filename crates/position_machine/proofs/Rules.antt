@@ -34,92 +34,92 @@ use Rattle.position_machine.specs.declared.Update.{Update}
 -- an exit's closing
 abbrev closeBy : Bar → Side → Decision → Going → Going
 closeBy b side Nothing g = g
-closeBy b side (By d) g = write b (closeOf side) Flat d g
+closeBy b side (By d) g = write b (closeOf side) Flat d (g .lots) g
 
 -- whether the position is on the side and may close
 abbrev mayLeave : Sheet → Bar → Side → Head → Bool
 mayLeave s b side h = on side (h .pos) && mayClose s b (lastOpen side h)
 
-module _ (s : Sheet) (b : Bar) (c : Choice) (side : Side) (h : Head) where
+module _ (s : Sheet) (b : Bar) (c : Choice) (side : Side) (lots : ℕ) (h : Head) where
   abbrev mayEnter : Bool
   mayEnter = allowed s b (lastOpen side h) && not (on side (h .pos))
 
-  pub enters : {n : ℕ} {p : Pos} {k : Head} → n ≡ openOf side → p ≡ posOf side → silent k ≡ openNow side b (silent h) → mayEnter ≡ true
-      → write b n p (ByEvent (c .event)) (silent k) ≡ openOrClose s b c side (silent h)
+  pub enters : {n : ℕ} {p : Pos} {k : Head} → n ≡ openOf side → p ≡ posOf side → silent k lots ≡ openNow side b (silent h lots) → mayEnter ≡ true
+      → write b n p (ByEvent (c .event)) (c .lots) (silent k lots) ≡ openOrClose s b c side (silent h lots)
   unfolding openOrClose
   enters {n} {p} {k} en ep ek e =
-      ap₂ (λ (n : ℕ) (p : Pos). write b n p (ByEvent (c .event)) (silent k)) en ep
-      ∙ ap (write b (openOf side) (posOf side) (ByEvent (c .event))) ek
+      ap₂ (λ (n : ℕ) (p : Pos). write b n p (ByEvent (c .event)) (c .lots) (silent k lots)) en ep
+      ∙ ap (write b (openOf side) (posOf side) (ByEvent (c .event)) (c .lots)) ek
       ∙ rw e refl
 
   pub turns : {n : ℕ} {x : Side} → x ≡ other side → n ≡ closeOf x → mayEnter ≡ false → mayLeave s b x h ≡ true
-      → write b n Flat (ByEvent (c .event)) (silent h) ≡ openOrClose s b c side (silent h)
+      → write b n Flat (ByEvent (c .event)) lots (silent h lots) ≡ openOrClose s b c side (silent h lots)
   unfolding openOrClose
   turns {n} {x} ex en e f =
-      ap (λ (n : ℕ). write b n Flat (ByEvent (c .event)) (silent h)) (en ∙ ap closeOf ex) ∙ rw (e, sym (ap (λ (y : Side). mayLeave s b y h) ex) ∙ f) refl
+      ap (λ (n : ℕ). write b n Flat (ByEvent (c .event)) lots (silent h lots)) (en ∙ ap closeOf ex) ∙ rw (e, sym (ap (λ (y : Side). mayLeave s b y h) ex) ∙ f) refl
 
-  pub keeps : {x : Side} → x ≡ other side → mayEnter ≡ false → mayLeave s b x h ≡ false → silent h ≡ openOrClose s b c side (silent h)
+  pub keeps : {x : Side} → x ≡ other side → mayEnter ≡ false → mayLeave s b x h ≡ false → silent h lots ≡ openOrClose s b c side (silent h lots)
   unfolding openOrClose
   keeps {x} ex e f = rw (e, sym (ap (λ (y : Side). mayLeave s b y h) ex) ∙ f) refl
 
-  exit-closes : (r : Reference) → closeBy b side (exitOf s b c side r) (silent h) ≡ closeOn s b c side r (silent h)
+  exit-closes : (r : Reference) → closeBy b side (exitOf s b c side r) (silent h lots) ≡ closeOn s b c side r (silent h lots)
   exit-closes Reference.Never = refl
   exit-closes (Reference.At r) = go (eqb (c .operate) (closeOf side)) (stopped s side b r) (timedOut s b r)
     where
       go : (x y z : Bool)
-          → closeBy b side (cond x (By (ByEvent (c .event))) (cond y (By Stop) (cond z (By Timeout) Nothing))) (silent h)
-          ≡ cond x (write b (closeOf side) Flat (ByEvent (c .event)) (silent h))
-          (cond y (write b (closeOf side) Flat Stop (silent h)) (cond z (write b (closeOf side) Flat Timeout (silent h)) (silent h)))
+          → closeBy b side (cond x (By (ByEvent (c .event))) (cond y (By Stop) (cond z (By Timeout) Nothing))) (silent h lots)
+          ≡ cond x (write b (closeOf side) Flat (ByEvent (c .event)) lots (silent h lots))
+          (cond y (write b (closeOf side) Flat Stop lots (silent h lots)) (cond z (write b (closeOf side) Flat Timeout lots (silent h lots)) (silent h lots)))
       go true y z = refl
       go false true z = refl
       go false false true = refl
       go false false false = refl
 
-  pub stays : mayLeave s b side h ≡ false → silent h ≡ closing s b c side (silent h)
+  pub stays : mayLeave s b side h ≡ false → silent h lots ≡ closing s b c side (silent h lots)
   unfolding closing
   stays e = rw e refl
 
-  pub leaves : (d : Decision) → mayLeave s b side h ≡ true → exitOf s b c side (h .reference) ≡ d → closeBy b side d (silent h) ≡ closing s b c side (silent h)
+  pub leaves : (d : Decision) → mayLeave s b side h ≡ true → exitOf s b c side (h .reference) ≡ d → closeBy b side d (silent h lots) ≡ closing s b c side (silent h lots)
   unfolding closing
   leaves d e f = rw (e, ← f) (exit-closes (h .reference))
 
 -- ---- a closing that wrote leaves Flat, so no other writes
 
-module _ (s : Sheet) (b : Bar) (c : Choice) (h : Head) where
+module _ (s : Sheet) (b : Bar) (c : Choice) (lots : ℕ) (h : Head) where
   -- nothing was done, or a record was written that left Flat
   abbrev Left : Going → Type 0
-  Left g = (g ≡ silent h) ⊎ ((notEmpty (g .wrote) ≡ true) × (g .head .pos ≡ Flat))
+  Left g = (g ≡ silent h lots) ⊎ ((notEmpty (g .wrote) ≡ true) × (g .head .pos ≡ Flat))
 
-  closeBy-left : (side : Side) (d : Decision) → Left (closeBy b side d (silent h))
+  closeBy-left : (side : Side) (d : Decision) → Left (closeBy b side d (silent h lots))
   unfolding write
   closeBy-left side Nothing = inl refl
   closeBy-left side (By d) = inr (refl, refl)
 
-  closing-left : (side : Side) → Left (closing s b c side (silent h))
+  closing-left : (side : Side) → Left (closing s b c side (silent h lots))
   unfolding closing
   closing-left side =
-      both Left (mayLeave s b side h) _ (silent h)
-      (subst Left (exit-closes s b c side h (h .reference)) (closeBy-left side (exitOf s b c side (h .reference)))) (inl refl)
+      both Left (mayLeave s b side h) _ (silent h lots)
+      (subst Left (exit-closes s b c side lots h (h .reference)) (closeBy-left side (exitOf s b c side (h .reference)))) (inl refl)
 
-  pub first-still : (u : Update) → goingOf u ≡ closing s b c Side.Long (silent h) → u .wrote ≡ Wrote.Nothing
-      → closing s b c Side.Short (silent h) ≡ closing s b c Side.Short (closing s b c Side.Long (silent h))
+  pub first-still : (u : Update) → goingOf u ≡ closing s b c Side.Long (silent h lots) → u .wrote ≡ Wrote.Nothing
+      → closing s b c Side.Short (silent h lots) ≡ closing s b c Side.Short (closing s b c Side.Long (silent h lots))
   first-still u e w = go (closing-left Side.Long)
     where
-      go : Left (closing s b c Side.Long (silent h)) → closing s b c Side.Short (silent h) ≡ closing s b c Side.Short (closing s b c Side.Long (silent h))
+      go : Left (closing s b c Side.Long (silent h lots)) → closing s b c Side.Short (silent h lots) ≡ closing s b c Side.Short (closing s b c Side.Long (silent h lots))
       go (inl f) = ap (closing s b c Side.Short) (sym f)
       go (inr f) = absurd (false≢true (ap (λ x. notEmpty (wroteOf x)) (sym w) ∙ ap (λ (g : Going). notEmpty (g .wrote)) e ∙ f .0))
 
-  pub first-wrote : (u : Update) (r : Record) → goingOf u ≡ closing s b c Side.Long (silent h) → u .wrote ≡ Wrote.One r
-      → goingOf u ≡ closing s b c Side.Short (closing s b c Side.Long (silent h))
+  pub first-wrote : (u : Update) (r : Record) → goingOf u ≡ closing s b c Side.Long (silent h lots) → u .wrote ≡ Wrote.One r
+      → goingOf u ≡ closing s b c Side.Short (closing s b c Side.Long (silent h lots))
   first-wrote u r e w = go (closing-left Side.Long)
     where
-      go : Left (closing s b c Side.Long (silent h)) → goingOf u ≡ closing s b c Side.Short (closing s b c Side.Long (silent h))
+      go : Left (closing s b c Side.Long (silent h lots)) → goingOf u ≡ closing s b c Side.Short (closing s b c Side.Long (silent h lots))
       go (inl f) = absurd (false≢true (sym (ap (λ (g : Going). notEmpty (g .wrote)) (e ∙ f)) ∙ ap (λ x. notEmpty (wroteOf x)) w))
-      go (inr f) = e ∙ sym (closing-flat s b c Side.Short (closing s b c Side.Long (silent h)) (f .1))
+      go (inr f) = e ∙ sym (closing-flat s b c Side.Short (closing s b c Side.Long (silent h lots)) (f .1))
 
 -- ---- the whole of it, from the header as the bar came
 
-module _ (b : Bar) (c : Choice) (h : Head) {a : Head} (came : silent a ≡ arrive b c h) where
+module _ (b : Bar) (c : Choice) (lots : ℕ) (h : Head) {a : Head} (came : silent a lots ≡ arrive b c lots h) where
   pub times-still : TimesOk b h → TimesOk b a
   unfolding arrive
   times-still ok =
@@ -129,9 +129,9 @@ module _ (b : Bar) (c : Choice) (h : Head) {a : Head} (came : silent a ≡ arriv
         short = ap (λ (g : Going). openInRange (g .head .short)) came ∙ ok .short;
       }
 
-  pub opens : (s : Sheet) (side : Side) → eqb (c .operate) (openOf side) ≡ true → openOrClose s b c side (silent a) ≡ going s b c h
-  opens s side e = ap (openOrClose s b c side) came ∙ sym (going-opens s b c side h e)
+  pub opens : (s : Sheet) (side : Side) → eqb (c .operate) (openOf side) ≡ true → openOrClose s b c side (silent a lots) ≡ going s b c lots h
+  opens s side e = ap (openOrClose s b c side) came ∙ sym (going-opens s b c side lots h e)
 
   pub closes : (s : Sheet) → eqb (c .operate) LO ≡ false → eqb (c .operate) SO ≡ false
-      → closing s b c Side.Short (closing s b c Side.Long (silent a)) ≡ going s b c h
-  closes s e f = ap (λ (g : Going). closing s b c Side.Short (closing s b c Side.Long g)) came ∙ sym (going-closes s b c h e f)
+      → closing s b c Side.Short (closing s b c Side.Long (silent a lots)) ≡ going s b c lots h
+  closes s e f = ap (λ (g : Going). closing s b c Side.Short (closing s b c Side.Long g)) came ∙ sym (going-closes s b c lots h e f)

@@ -1,4 +1,5 @@
 -- What the private functions of `position_machine` promise. Assumes nothing.
+use Prim.Native.Nat.{ℕ}
 use mathlib.Core.Bool.{cond}
 use mathlib.Core.List.{[]}
 use lib.Dec.{eqb}
@@ -14,9 +15,9 @@ use Rattle.position.specs.declared.Description.the-variants.{Event as ByEvent, 
 use Rattle.position.specs.declared.Decision.{Decision}
 use Rattle.position.specs.declared.Decision.the-variants.{Nothing, By}
 
--- a bar on its way that has written nothing
-abbrev pub silent : Head → Going
-silent h = record { head = h; wrote = [] }
+-- a bar on its way that has written nothing, with the lots of the position
+abbrev pub silent : Head → ℕ → Going
+silent h lots = record { head = h; lots = lots; wrote = [] }
 
 -- what closes the side, if anything: "the first of operate LE (event name), .. (stop), .. (timeout)"
 abbrev pub exitOf : Sheet → Bar → Choice → Side → Reference → Decision

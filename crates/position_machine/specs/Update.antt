@@ -25,7 +25,7 @@ wroteOf (One r) = r ∷ []
 
 -- a bar that went through all steps
 abbrev pub goingOf : Update → Going
-goingOf u = record { head = u .head; wrote = wroteOf (u .wrote) }
+goingOf u = record { head = u .head; lots = u .lots; wrote = wroteOf (u .wrote) }
 
 -- the times that a step reads are in range
 pub record TimesOk (b : Bar) (h : Head) : Type 0 where

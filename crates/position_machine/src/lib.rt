@@ -4,9 +4,11 @@ use double::Yield;
 use double::hold_yield;
 use position::Head;
 use position::Hold;
+use position::Pos;
 use position::Record;
 ghost use mathlib.Core.Path.{_≡_};
-ghost use Rattle.position.specs.Step.{settle as Step·settle, newHold};
+ghost use Rattle.position.specs.Step.{settle as Step·settle, heldLots, newHold};
+ghost use Rattle.position_machine.specs.Update.{goingOf};
 
 pub mod step;
 
@@ -16,9 +18,10 @@ pub enum Wrote {
     One(Record),
 }
 
-// The header after a bar, and what the bar wrote.
+// The header after a bar, the lots of its position, and what the bar wrote.
 pub struct Update {
     pub head: Head,
+    pub lots: u16,
     pub wrote: Wrote,
 }
 
@@ -34,19 +37,33 @@ pub fn settle(bar: Bar, o: Hold) -> Hold
         pos,
         price: o.price,
         n1b,
+        lots: o.lots,
+    }
+}
+
+// The lots of a hold at a position: 0 when Flat.
+pub fn held_lots(pos: Pos, lots: u16) -> u16
+    ensures { λ r. ⌜ r ≡ heldLots pos lots ⌝ }
+{
+    match pos {
+        Pos::Short => lots,
+        Pos::Flat => 0,
+        Pos::Long => lots,
     }
 }
 
 // The bar's hold, whose yield is absent.
-pub fn new_hold(bar: Bar, h: Head) -> Hold
-    ensures { λ r. ⌜ r ≡ newHold bar h ⌝ }
+pub fn new_hold(bar: Bar, u: Update) -> Hold
+    ensures { λ r. ⌜ r ≡ newHold bar (goingOf u) ⌝ }
 {
     let time = bar.time;
+    let h = u.head;
     let pos = h.pos;
     Hold {
         time,
         pos,
         price: bar.price,
         n1b: Yield::Absent,
+        lots: held_lots(pos, u.lots),
     }
 }

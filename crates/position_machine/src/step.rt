@@ -21,6 +21,7 @@ use position::Record;
 use position::Reference;
 use stop::stop_double;
 use table::Settings;
+ghost use Prim.Native.Nat.{ℕ};
 ghost use mathlib.Core.Path.{_≡_};
 ghost use mathlib.Core.Bool.{true, not, _&&_};
 ghost use Rattle.bar.specs.Bar.{timeOk, dayAt};
@@ -190,7 +191,7 @@ fn last_event(bar: Bar, c: Choice, last: Reference) -> Reference
         return Reference::At(LastEvent {
             bar,
             operate: c.operate,
-            event: c.event,
+            event: c.event as u32,
         });
     }
     last
@@ -198,7 +199,7 @@ fn last_event(bar: Bar, c: Choice, last: Reference) -> Reference
 
 // The header as the bar comes: not changed, and ended by the bar.
 fn arrive(bar: Bar, c: Choice, h: Head) -> Head
-    ensures { λ r. ⌜ silent r ≡ Step·arrive bar c h ⌝ }
+    ensures { λ r. ⌜ ((lots : ℕ) → silent r lots ≡ Step·arrive bar c lots h) ⌝ }
 {
     let pos = h.pos;
     let end = bar.time;
@@ -218,7 +219,7 @@ fn arrive(bar: Bar, c: Choice, h: Head) -> Head
 
 // The header with the side's last opening at the bar.
 fn open_now(side: Side, bar: Bar, h: Head) -> Head
-    ensures { λ r. ⌜ silent r ≡ openNow side bar (silent h) ⌝ }
+    ensures { λ r. ⌜ ((lots : ℕ) → silent r lots ≡ openNow side bar (silent h lots)) ⌝ }
 {
     let pos = h.pos;
     let end = h.end;
@@ -247,15 +248,16 @@ fn open_now(side: Side, bar: Bar, h: Head) -> Head
     }
 }
 
-// The header changed to a position, and the record of it.
+// The header changed to a position, and the record of it with the lots opened or closed.
 fn create_operate_record(
     bar: Bar,
     operate: u8,
     pos: Pos,
     description: Description,
+    lots: u16,
     h: Head,
 ) -> Update
-    ensures { λ r. ⌜ goingOf r ≡ write bar operate pos description (silent h) ⌝ }
+    ensures { λ r. ⌜ ((before : ℕ) → goingOf r ≡ write bar operate pos description lots (silent h before)) ⌝ }
 {
     let end = h.end;
     let long = h.long;
@@ -266,6 +268,7 @@ fn create_operate_record(
         operate,
         pos,
         description,
+        lots,
     };
     Update {
         head: Head {
@@ -276,14 +279,15 @@ fn create_operate_record(
             short,
             reference,
         },
+        lots,
         wrote: Wrote::One(record),
     }
 }
 
 // The side's opening; or, where that cannot be, the closing of the other side.
-fn open_or_close(k: Settings, bar: Bar, c: Choice, side: Side, h: Head) -> Update
+fn open_or_close(k: Settings, bar: Bar, c: Choice, side: Side, lots: u16, h: Head) -> Update
     requires { ⌜ TimesOk bar h ⌝ }
-    ensures { λ r. ⌜ goingOf r ≡ openOrClose (ofSettings k) bar c side (silent h) ⌝ }
+    ensures { λ r. ⌜ goingOf r ≡ openOrClose (ofSettings k) bar c side (silent h lots) ⌝ }
 {
     let description = Description::Event(c.event);
     if can_open(k, bar, side, h) {
@@ -292,15 +296,17 @@ fn open_or_close(k: Settings, bar: Bar, c: Choice, side: Side, h: Head) -> Updat
             open_operate(side),
             side_pos(side),
             description,
+            c.lots,
             open_now(side, bar, h),
         );
     }
     let against = other(side);
     if can_close(k, bar, against, h) {
-        return create_operate_record(bar, close_operate(against), Pos::Flat, description, h);
+        return create_operate_record(bar, close_operate(against), Pos::Flat, description, lots, h);
     }
     Update {
         head: h,
+        lots,
         wrote: Wrote::Nothing,
     }
 }
@@ -327,12 +333,13 @@ fn exit_desc(k: Settings, bar: Bar, c: Choice, side: Side, last: Reference) -> D
 }
 
 // The side's closing.
-fn close(k: Settings, bar: Bar, c: Choice, side: Side, h: Head) -> Update
+fn close(k: Settings, bar: Bar, c: Choice, side: Side, lots: u16, h: Head) -> Update
     requires { ⌜ TimesOk bar h ⌝ }
-    ensures { λ r. ⌜ goingOf r ≡ closing (ofSettings k) bar c side (silent h) ⌝ }
+    ensures { λ r. ⌜ goingOf r ≡ closing (ofSettings k) bar c side (silent h lots) ⌝ }
 {
     let same = Update {
         head: h,
+        lots,
         wrote: Wrote::Nothing,
     };
     if !can_close(k, bar, side, h) {
@@ -347,27 +354,29 @@ fn close(k: Settings, bar: Bar, c: Choice, side: Side, h: Head) -> Update
             close_operate(side),
             Pos::Flat,
             description,
+            lots,
             h,
         ),
     }
 }
 
-// The header after the bar, whose signals chose c: an LO or SO opens alone; else the sides close, and after a closing no other.
-pub fn update(k: Settings, bar: Bar, c: Choice, h: Head) -> Update
+// The header after the bar, whose signals chose c, with the lots open before it: an LO or SO opens alone; else the sides close, and after a closing
+// no other.
+pub fn update(k: Settings, bar: Bar, c: Choice, lots: u16, h: Head) -> Update
     requires { ⌜ TimesOk bar h ⌝ }
-    ensures { λ r. ⌜ goingOf r ≡ going (ofSettings k) bar c h ⌝ }
+    ensures { λ r. ⌜ goingOf r ≡ going (ofSettings k) bar c lots h ⌝ }
 {
     let arrived = arrive(bar, c, h);
     if c.operate == LO {
-        return open_or_close(k, bar, c, Side::Long, arrived);
+        return open_or_close(k, bar, c, Side::Long, lots, arrived);
     }
     if c.operate == SO {
-        return open_or_close(k, bar, c, Side::Short, arrived);
+        return open_or_close(k, bar, c, Side::Short, lots, arrived);
     }
-    let u = close(k, bar, c, Side::Long, arrived);
+    let u = close(k, bar, c, Side::Long, lots, arrived);
     let wrote = u.wrote;
     match wrote {
-        Wrote::Nothing => close(k, bar, c, Side::Short, arrived),
+        Wrote::Nothing => close(k, bar, c, Side::Short, lots, arrived),
         Wrote::One(_) => u,
     }
 }

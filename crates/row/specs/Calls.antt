@@ -56,6 +56,7 @@ pairRow p =
       symbol = length (p .symbol);
       mark = length (p .mark);
       sequence = length (p .sequence);
+      lots = p .lots;
     }
 
 unfoldable pub holdDo : List ℕ → List ℕ → ℤ → Answer HoldRow

@@ -26,14 +26,14 @@ hold-bytes : blockBytes (replicate 34 7) (holdBlockDo soy whole (pos 1) (replica
 unfolding opened soy fed firstBar secondBar opening whole
 hold-bytes = refl
 
--- the pair: 88 bytes, and the 32 of its texts
-pairs : (pairBlockDo soy whole (pos 0) (replicate 2136 7) >>= λ rows. Got (blockOf rows)) ≡ Got (record { rows = 1; length = 120 })
+-- the pair: 96 bytes, and the 32 of its texts
+pairs : (pairBlockDo soy whole (pos 0) (replicate 2144 7) >>= λ rows. Got (blockOf rows)) ≡ Got (record { rows = 1; length = 128 })
 unfolding opened soy fed firstBar secondBar opening whole
 pairs = refl
 
 -- a buffer too short, a row past the last, a row below 0
 refused : (holdBlockDo soy whole (pos 0) (replicate 31 7) ≡ Refused 8) × (pairBlockDo soy whole (pos 0) (replicate 2135 7) ≡ Refused 8)
-    × (holdBlockDo soy whole (pos 2) (replicate 32 7) ≡ Refused 15) × (pairBlockDo soy whole (negsuc 0) (replicate 2136 7) ≡ Refused 15)
+    × (holdBlockDo soy whole (pos 2) (replicate 32 7) ≡ Refused 15) × (pairBlockDo soy whole (negsuc 0) (replicate 2144 7) ≡ Refused 15)
 unfolding opened soy fed firstBar secondBar opening whole
 refused = (refl, refl, refl, refl)
 

@@ -143,8 +143,8 @@ module _ (t b : List ℕ) (i : ℤ) (out : List ℕ) (block : List (List ℕ)) (
 
 -- ---- pairs
 
--- 88 bytes and the texts
-pub pair-long : (p : Pair) → length (pairRowBytes p) ≡ 88 + length (pairText p)
+-- 96 bytes and the texts
+pub pair-long : (p : Pair) → length (pairRowBytes p) ≡ 96 + length (pairText p)
 unfolding pairRowBytes
 pair-long p = simp length-append (simp length-leBytes (omega (arith, yield-length (p .yield))))
 

@@ -33,17 +33,17 @@ abbrev pub sideSign : Side → ℤ
 sideSign Long = pos 1
 sideSign Short = negsuc 0
 
--- 88 bytes: i32 side, u32 yield present, i64 both local times, both prices; i64 id difference, days, yield (zeros where it is absent), u64
--- lengths of symbol, mark and sequence. Then these texts, as the single call writes them.
+-- 96 bytes: i32 side, u32 yield present, i64 both local times, both prices; i64 id difference, days, yield (zeros where it is absent), u64
+-- lengths of symbol, mark and sequence, u64 lots. Then these texts, as the single call writes them.
 unfoldable pub pairRowBytes : Pair → List ℕ
 pairRowBytes p =
     (putI32 (sideSign (p .side)) ++ put32 (yieldFlag (p .yield)) ++ putI64 (p .openLocal .0) ++ putI64 (p .closeLocal .0) ++ putF64 (p .openPrice) ++ putF64 (p .closePrice))
-    ++ (putI64 (p .ids) ++ putF64 (p .days) ++ yieldBytes (p .yield) ++ leBytes 8 (length (p .symbol)) ++ leBytes 8 (length (p .mark)) ++ leBytes 8 (length (p .sequence)))
+    ++ (putI64 (p .ids) ++ putF64 (p .days) ++ yieldBytes (p .yield) ++ leBytes 8 (length (p .symbol)) ++ leBytes 8 (length (p .mark)) ++ leBytes 8 (length (p .sequence)) ++ leBytes 8 (p .lots))
     ++ pairText p
 
 -- the most bytes of a pair row: its texts fit a row buffer
 abbrev pub pairRowLimit : ℕ
-pairRowLimit = 88 + rowBuffer
+pairRowLimit = 96 + rowBuffer
 
 -- ---- a block
 

@@ -16,9 +16,10 @@ use Rattle.row_blocks.specs.Blocks.{sideSign}
 abbrev pub tradeBytes : PairRow → List ℕ
 tradeBytes p = putI32 (sideSign (p .side)) ++ put32 (yieldFlag (p .bp)) ++ putI64 (p .opened .0) ++ putI64 (p .closed .0) ++ putF64 (p .from) ++ putF64 (p .to)
 
--- 48 bytes: the id difference, days, the yield, the lengths of the texts
+-- 56 bytes: the id difference, days, the yield, the lengths of the texts, the lots
 abbrev pub figureBytes : PairRow → List ℕ
-figureBytes p = putI64 (p .ids) ++ putF64 (p .days) ++ yieldBytes (p .bp) ++ leBytes 8 (p .symbol) ++ leBytes 8 (p .mark) ++ leBytes 8 (p .sequence)
+figureBytes p =
+    putI64 (p .ids) ++ putF64 (p .days) ++ yieldBytes (p .bp) ++ leBytes 8 (p .symbol) ++ leBytes 8 (p .mark) ++ leBytes 8 (p .sequence) ++ leBytes 8 (p .lots)
 
 -- the doubles of a row are numbers
 pub record RowNumbers (p : PairRow) : Type 0 where

@@ -19,7 +19,7 @@ ghost use Rattle.row_blocks.specs.Blocks.{sideSign};
 ghost use Rattle.row_blocks_pair_write.specs.Row.{tradeBytes, figureBytes, RowNumbers};
 
 // The length of a pair row's numbers.
-pub const PAIR_NUMBERS: usize = 88;
+pub const PAIR_NUMBERS: usize = 96;
 
 // 1 for L, -1 for S.
 pub fn side_sign(s: Side) -> i32
@@ -49,25 +49,27 @@ fn put_trade(out: &mut [u8], at: usize, p: PairRow)
     put_f64(out, at + 32, p.to);
 }
 
-// Writes the figures from `at` on: the id difference, days, the yield, and the lengths of the texts.
+// Writes the figures from `at` on: the id difference, days, the yield, the lengths of the texts, and the lots.
 fn put_figures(out: &mut [u8], at: usize, p: PairRow)
-    requires { ⌜ at + 48 ≤ length (now out) ⌝ }
+    requires { ⌜ at + 56 ≤ length (now out) ⌝ }
     requires { ⌜ RowNumbers p ⌝ }
-    ensures { λ _. ⌜ Put (now (out .entry)) (now (out .exit)) at (figureBytes p) (at + 48) ⌝ }
+    ensures { λ _. ⌜ Put (now (out .entry)) (now (out .exit)) at (figureBytes p) (at + 56) ⌝ }
 {
     let bp = p.bp;
+    let lots = p.lots as u64;
     put_i64(out, at, p.ids);
     put_f64(out, at + 8, p.days);
     put_yield(out, at + 16, bp);
     put_u64(out, at + 24, p.symbol as u64);
     put_u64(out, at + 32, p.mark as u64);
     put_u64(out, at + 40, p.sequence as u64);
+    put_u64(out, at + 48, lots);
 }
 
 // Writes a row whose n bytes of texts are at the start of the buffer, and answers the place behind it.
 pub fn put_row(out: &mut [u8], at: usize, p: PairRow, buffer: &[u8], n: usize) -> usize
     requires { ⌜ n ≤ length (now buffer) ⌝ }
-    requires { ⌜ at + 88 + n ≤ length (now out) ⌝ }
+    requires { ⌜ at + 96 + n ≤ length (now out) ⌝ }
     requires { ⌜ RowNumbers p ⌝ }
     ensures { λ r. ⌜ Put (now (out .entry)) (now (out .exit)) at (tradeBytes p ++ figureBytes p ++ slice 0 n (now (buffer .entry))) r ⌝ }
 {

@@ -44,7 +44,7 @@ made {p} {before} {after} {r} long kept w =
     }
 
 module _ {p : Pair} {r : PairRow} {buffer : List ℕ} (m : Made p r buffer) where
-  pub made-full : (n at : ℕ) → n - at < 88 + texts r → n - at < length (pairRowBytes p)
+  pub made-full : (n at : ℕ) → n - at < 96 + texts r → n - at < length (pairRowBytes p)
   made-full n at h =
       let e : texts r ≡ length (pairText p) = rw (m .is, length-append, length-append) in
       omega (arith, h, e, pair-long p)

@@ -7,7 +7,7 @@ use mathlib.Core.List.{List}
 use borrow.Author.Tests.{ltb-true}
 use lib.ListN.{length, take, drop}
 use Rattle.le.specs.Le.{part}
-use Rattle.le.specs.Field.{u8, u32}
+use Rattle.le.specs.Field.{u8, u16, u32}
 use Rattle.le.proofs.Laws.{part-lent}
 use Rattle.text.proofs.Conditions.{fact}
 use Rattle.position.specs.declared.Record.{Record}
@@ -34,7 +34,7 @@ named n (suc (suc (suc k))) event h = tt
 
 shown : (n : ℕ) (o : List ℕ) → recordOk n o ≡ true → Shown n (recordOf o)
 unfolding recordOk recordOf
-shown n o h = record { time = fact _ h 0; named = named n (u8 o 26) (u32 o 28) (fact _ h 5) }
+shown n o h = record { time = fact _ h 0; named = named n (u8 o 26) (u16 o 28) (fact _ h 5) }
 
 module _ {n c : ℕ} {b : List ℕ} (h : Traded n c b) (j : ℕ) (l : j < u32 b 4) where
   -- record number j lies within the book

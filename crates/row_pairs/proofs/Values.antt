@@ -53,6 +53,7 @@ pub row-is : (a z : Record) (symbol mark sequence : ℕ) (side : Side) (opened c
       symbol = symbol;
       mark = mark;
       sequence = sequence;
+      lots = a .lots;
     } ≡ rowOf a z symbol mark sequence
 unfolding rowOf
 row-is a z symbol mark sequence side opened closed ids days bp s o l i d y = rw (y, s, o, l, i, d)

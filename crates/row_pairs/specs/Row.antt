@@ -30,6 +30,7 @@ rowOf a z symbol mark sequence =
       symbol = symbol;
       mark = mark;
       sequence = sequence;
+      lots = a .lots;
     }
 
 -- the texts of p are at the start of the buffer, and r is its row

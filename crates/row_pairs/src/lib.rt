@@ -142,6 +142,7 @@ fn row_of(a: Record, z: Record, symbol: usize, mark: usize, sequence: usize) -> 
         symbol,
         mark,
         sequence,
+        lots: a.lots,
     }
 }
 

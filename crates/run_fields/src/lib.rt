@@ -113,6 +113,25 @@ pub fn text_field(out: &mut [u8], at: usize, s: &[u8], from: usize, to: usize) -
     put_byte(out, end, PIPE)
 }
 
+// A yield that other fields follow.
+pub fn yield_field(out: &mut [u8], at: usize, y: Yield) -> usize
+    requires { ⌜ at + 17 ≤ length (now out) ⌝ }
+    requires { ⌜ YieldShown y ⌝ }
+    ensures { λ r. ⌜ ShortPut 17 (now (out .entry)) (now (out .exit)) at (yieldText y ++ pipe ∷ []) r ⌝ }
+{
+    let end = put_yield(out, at, y);
+    put_byte(out, end, PIPE)
+}
+
+// The last field of a line: a natural number.
+pub fn last_decimal(out: &mut [u8], at: usize, v: u64) -> usize
+    requires { ⌜ at + 21 ≤ length (now out) ⌝ }
+    ensures { λ r. ⌜ Put (now (out .entry)) (now (out .exit)) at (line (decimalOf v ∷ [])) r ⌝ }
+{
+    let end = put_decimal(out, at, v);
+    put_byte(out, end, LF)
+}
+
 // The last field of a line: a yield.
 pub fn last_yield(out: &mut [u8], at: usize, y: Yield) -> usize
     requires { ⌜ at + 17 ≤ length (now out) ⌝ }

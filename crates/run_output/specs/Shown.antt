@@ -37,6 +37,7 @@ pairIn r buffer =
       sequence = part buffer (r .symbol + r .mark) (r .sequence);
       days = r .days;
       yield = r .bp;
+      lots = r .lots;
     }
 
 pub record HoldShown (o : HoldRow) : Type 0 where

@@ -3,11 +3,13 @@ use position::HoldRow;
 use position::PairRow;
 use run_fields::decimal_field;
 use run_fields::integer_field;
+use run_fields::last_decimal;
 use run_fields::last_yield;
 use run_fields::put_flag;
 use run_fields::put_side;
 use run_fields::real_field;
 use run_fields::text_field;
+use run_fields::yield_field;
 use text::LF;
 use text::PIPE;
 use text::put_byte;
@@ -22,8 +24,8 @@ ghost use Rattle.le.specs.Le.{part};
 ghost use Rattle.text.specs.Literal.{bytes};
 ghost use Rattle.text.specs.Number.{decimalOf, integerOf};
 ghost use Rattle.text.specs.Read.{Put};
-ghost use Rattle.position.specs.Run.{line, hexBits, sideText, flagText, pairLine, holdLine};
-ghost use Rattle.run_fields.specs.Fields.{fieldsText, ShortPut};
+ghost use Rattle.position.specs.Run.{line, hexBits, yieldText, sideText, flagText, pairLine, holdLine};
+ghost use Rattle.run_fields.specs.Fields.{fieldsText, ShortPut, YieldShown};
 ghost use Rattle.run_output.specs.Shown.{feedRoom, pairRoom, holdRoom, pairIn, HoldShown, PairShown};
 
 // The most bytes of a line: of a feed or a refusal, of a pair row, of a hold row.
@@ -102,7 +104,21 @@ fn pair_names(out: &mut [u8], at: usize, p: PairRow, buffer: &[u8]) -> usize
     put_byte(out, d, PIPE)
 }
 
-// `R|symbol|mark|side|opened|closed|from|to|ids|sequence|days|yield`, with the texts of the row buffer.
+// The last fields of a pair row: days, the yield and the lots.
+fn pair_figures(out: &mut [u8], at: usize, p: PairRow) -> usize
+    requires { ⌜ at + 55 ≤ length (now out) ⌝ }
+    requires { ⌜ T (not (isNan (p .days))) ⌝ }
+    requires { ⌜ YieldShown (p .bp) ⌝ }
+    ensures { λ r. ⌜ Put (now (out .entry)) (now (out .exit)) at (line (hexBits (p .days) ∷ yieldText (p .bp) ∷ decimalOf (p .lots) ∷ [])) r ⌝ }
+{
+    let bp = p.bp;
+    let lots = p.lots as u64;
+    let a = real_field(out, at, p.days);
+    let b = yield_field(out, a, bp);
+    last_decimal(out, b, lots)
+}
+
+// `R|symbol|mark|side|opened|closed|from|to|ids|sequence|days|yield|lots`, with the texts of the row buffer.
 pub fn put_pair(out: &mut [u8], at: usize, p: PairRow, buffer: &[u8]) -> usize
     requires { ⌜ at + pairRoom ≤ length (now out) ⌝ }
     requires { ⌜ PairShown p (now buffer) ⌝ }
@@ -110,10 +126,8 @@ pub fn put_pair(out: &mut [u8], at: usize, p: PairRow, buffer: &[u8]) -> usize
 {
     let from = p.symbol + p.mark;
     let to = from + p.sequence;
-    let bp = p.bp;
     let a = pair_names(out, at, p, buffer);
     let b = pair_numbers(out, a, p);
     let c = text_field(out, b, buffer, from, to);
-    let d = real_field(out, c, p.days);
-    last_yield(out, d, bp)
+    pair_figures(out, c, p)
 }

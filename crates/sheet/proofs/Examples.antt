@@ -1,7 +1,7 @@
 -- Worked examples of sheets, computed from the definitions: what is read, and the order of refusals. Assumes nothing.
 use Prim.Native.Nat.{ℕ, zero, suc}
 use mathlib.Core.Bool.{true, false}
-use mathlib.Core.List.{List, [], _∷_, _++_}
+use mathlib.Core.List.{List, [], _∷_, _++_, map}
 use mathlib.Core.Path.{_≡_, refl}
 use lib.ListN.{replicate}
 use Rattle.text.specs.Answer.{Answer, Refused, Got, _>>=_}
@@ -38,13 +38,14 @@ in-order : after (bytes "O|开多|a\nN|a_b_c_1_2_3_4\nA|a_b_c_5_任意_7_8\nY|�
             exit = false;
             operate = LO;
             name = bytes "a";
+            lots = 1;
             clauses =
                 record { kind = Not; signal = record { key = bytes "a_b_c"; v1 = bytes "1"; v2 = bytes "2"; v3 = bytes "3"; score = 4 } }
                 ∷ record { kind = All; signal = record { key = bytes "a_b_c"; v1 = bytes "5"; v2 = bytes "任意"; v3 = bytes "7"; score = 8 } }
                 ∷ record { kind = Any; signal = record { key = bytes "b_c"; v1 = bytes "1"; v2 = bytes "2"; v3 = bytes "3"; score = 4 } }
                 ∷ [];
           }
-          ∷ record { exit = true; operate = LE; name = bytes "b"; clauses = [] }
+          ∷ record { exit = true; operate = LE; name = bytes "b"; lots = 1; clauses = [] }
           ∷ [];
     })
 unfolding opened
@@ -57,6 +58,14 @@ kept = bytes "P|n|s|7|6|5|1\nO|LO|a\nY|a_b_c_1_2_3_4\n"
 numbers : Got (sheetAt kept (0 ∷ 3 ∷ 19 ∷ 1 ∷ 0 ∷ 1 ∷ []) (1 ∷ 23 ∷ 1 ∷ 3 ∷ 5 ∷ 7 ∷ 9 ∷ 11 ∷ 4 ∷ []) (record { name = 3; symbol = 5; interval = 7; timeout = 6; stop = 500; t0 = 1; evening = 0; events = 1; clauses = 1 })) ≡ readSheet kept
 unfolding opened kept
 numbers = refl
+
+-- and so do those of an event with lots
+many : List ℕ
+many = bytes "P|n|s|7|6|5|1\nO|LO|a|5\nX|LE|b\n"
+
+lots-numbers : Got (sheetAt many (8 ∷ 3 ∷ 19 ∷ 1 ∷ 0 ∷ 0 ∷ 1 ∷ 4 ∷ 28 ∷ 1 ∷ 0 ∷ 0 ∷ []) [] (record { name = 3; symbol = 5; interval = 7; timeout = 6; stop = 500; t0 = 1; evening = 0; events = 2; clauses = 0 })) ≡ readSheet many
+unfolding opened many
+lots-numbers = refl
 
 -- every limit, with zeros in front; empty names
 at-limits : readSheet (bytes "P|||4102444800|2147483647|0001000000.00|01|0000001439\n")
@@ -89,11 +98,31 @@ seventh = (refl, refl, refl, refl, refl, refl)
 
 -- ---- later lines
 
--- a second P, an empty line, an O after an X, a clause before any event, a field too many
+-- a second P, an empty line, an O after an X, a clause before any event, a field too few
 later-2 : (after (bytes "P|n|s|0|0|0|0\n") ≡ Refused 2) × (after (bytes "\n") ≡ Refused 2) × (after (bytes "X|LE|a\nO|LO|b\n") ≡ Refused 2)
-    × (after (bytes "A|a_b_c_1_2_3_4\n") ≡ Refused 2) × (after (bytes "O|LO|a|b\n") ≡ Refused 2)
+    × (after (bytes "A|a_b_c_1_2_3_4\n") ≡ Refused 2) × (after (bytes "O|LO\n") ≡ Refused 2)
 unfolding opened
 later-2 = (refl, refl, refl, refl, refl)
+
+-- the lots of the events: said, not said, with zeros in front, at the limit, an exit's
+abbrev lotsOfAll : Answer Sheet → Answer (List ℕ)
+lotsOfAll x = x >>= λ s. Got (map (λ e. e .lots) (s .events))
+
+lots : lotsOfAll (after (bytes "O|LO|a|5\nO|LO|b\nO|LE|c|0005\nO|SO|d|1000\nX|LE|e\n")) ≡ Got (5 ∷ 1 ∷ 5 ∷ 1_000 ∷ 1 ∷ [])
+unfolding opened
+lots = refl
+
+-- no number: a letter, nothing, a sign, a point, eleven digits
+lots-3 : (after (bytes "O|LO|a|x\n") ≡ Refused 3) × (after (bytes "O|LO|a|\n") ≡ Refused 3) × (after (bytes "O|LO|a|-1\n") ≡ Refused 3)
+    × (after (bytes "O|LO|a|1.5\n") ≡ Refused 3) × (after (bytes "O|LO|a|00000000001\n") ≡ Refused 3)
+unfolding opened
+lots-3 = (refl, refl, refl, refl, refl)
+
+-- outside 1 to 1,000; an X line has no fourth field, an O line no fifth
+lots-18 : (after (bytes "O|LO|a|0\n") ≡ Refused 18) × (after (bytes "O|LO|a|1001\n") ≡ Refused 18) × (after (bytes "O|LO|a|9999999999\n") ≡ Refused 18)
+    × (after (bytes "X|LE|a|1\n") ≡ Refused 2) × (after (bytes "O|LO|a|1|1\n") ≡ Refused 2)
+unfolding opened
+lots-18 = (refl, refl, refl, refl, refl)
 
 -- an operate, a signal's parts, its score
 later-456 : (after (bytes "O|lo|a\n") ≡ Refused 4) × (after (bytes "O|LO|a\nA|a_b\n") ≡ Refused 5) × (after (bytes "O|LO|a\nY|a_b_c_1_2_3_101\n") ≡ Refused 6)
@@ -109,6 +138,12 @@ two-faults : (after (bytes "A|a_b\n") ≡ Refused 2) × (after (bytes "O|ZZ|" ++
     × (after (bytes "O|ZZ|a\nO|LO|a") ≡ Refused 4) × (after (bytes "O|LO|a\nO|ZZ|a") ≡ Refused 2)
 unfolding opened
 two-faults = (refl, refl, refl, refl, refl, refl)
+
+-- name before lots (7 before 18), operate before them too, lots before the count (18 and 3 before 7)
+lots-faults : (after (bytes "O|LO|" ++ replicate 257 97 ++ bytes "|0\n") ≡ Refused 7) × (after (bytes "O|ZZ|a|0\n") ≡ Refused 4)
+    × (after (times 32 (bytes "O|LO|a\n") ++ bytes "O|LO|a|0\n") ≡ Refused 18) × (after (times 32 (bytes "O|LO|a\n") ++ bytes "O|LO|a|x\n") ≡ Refused 3)
+unfolding opened times
+lots-faults = (refl, refl, refl, refl)
 
 -- text length before UTF-8, UTF-8 before the first line
 whole-text : (readSheet (replicate 16385 255) ≡ Refused 7) × (readSheet (replicate 16384 255) ≡ Refused 1) × (readSheet (255 ∷ []) ≡ Refused 1)

@@ -1,20 +1,21 @@
 -- The fields of a line, one after another, and its tag. Assumes nothing.
-use Prim.Native.Nat.{ℕ, suc, _+_, _≤_}
+use Prim.Native.Nat.{ℕ, suc, _+_, _-_, _<_, _≤_}
 use native.Mathlib.Omega.{arith}
+use native.Mathlib.Decide.{decLt}
 use mathlib.Core.Path.{_≡_, _∙_, refl, ap}
 use mathlib.Core.Logic.{_≢_}
 use mathlib.Core.Bool.{Bool, true, false, cond, _&&_}
 use mathlib.Core.List.{List, [], _∷_}
-use borrow.Author.Tests.{ne-eqb}
+use borrow.Author.Tests.{ne-eqb, lt-ltb, le-ltb}
 use lib.Dec.{eqb}
 use lib.ListN.{length, getD}
 use lib.Seq.{slice}
 use Rattle.text.specs.Text.{same, split, onto, pipe}
-use Rattle.text.specs.Read.{Part}
+use Rattle.text.specs.Read.{Part, FirstAt}
 use Rattle.text.proofs.Laws.{part-cons}
-use Rattle.text.proofs.Cut.{split-one, CutAt}
-use Rattle.text.proofs.Parts.{onto-count, split-some}
-use Rattle.sheet.specs.Places.{fieldsOf}
+use Rattle.text.proofs.Cut.{split-one, CutAt, cut}
+use Rattle.text.proofs.Parts.{onto-count, split-some, split-next, split-last}
+use Rattle.sheet.specs.Places.{fieldsOf, behind}
 
 -- ---- how many
 
@@ -33,6 +34,32 @@ Cut s from to r n = CutAt pipe s from to r n
 
 pub last-field : (s : List ℕ) (from to : ℕ) → length (fieldsOf s from to) ≡ 1 → fieldsOf s from to ≡ slice from to s ∷ []
 last-field s from to h = split-one pipe (slice from to s) h
+
+-- the field that ends at r, with others behind it
+abbrev pub Field : List ℕ → ℕ → ℕ → ℕ → Type 0
+Field s from to r = Cut s from to r (length (fieldsOf s from to) - 1)
+
+pub field : {s : List ℕ} {from to r : ℕ} → Part s from to → FirstAt s from to pipe r → 2 ≤ length (fieldsOf s from to) → Field s from to r
+field p f h = cut p f (omega arith) (omega arith)
+
+-- the last field, or the last but one and the one behind it
+pub record LastTwo (s : List ℕ) (from to r : ℕ) : Type 0 where
+  pub fields : fieldsOf s from to ≡ slice from r s ∷ behind s r to
+  pub rest : Part s r to
+
+pub last-two : {s : List ℕ} {from to r : ℕ} → Part s from to → FirstAt s from to pipe r → length (fieldsOf s from to) ≤ 2 → LastTwo s from to r
+last-two {s} {from} {to} {r} p f h = record {
+  fields = elim (decLt r to) [ yes l ↦ more l | no l ↦ one (omega (arith, f .high)) ];
+  rest = record { order = f .high; within = p .within };
+}
+  where
+    more : r < to → fieldsOf s from to ≡ slice from r s ∷ behind s r to
+    more l =
+        let e = split-next p f l in
+        e ∙ rw (lt-ltb r to l, last-field s (r + 1) to (omega (arith, ap length e, split-some pipe (slice (r + 1) to s)))) refl
+
+    one : r ≡ to → fieldsOf s from to ≡ slice from r s ∷ behind s r to
+    one e = split-last p f e ∙ rw (le-ltb r to (omega arith), e)
 
 -- ---- tags
 

@@ -1,8 +1,9 @@
 -- What the code keeps of a sheet that it read: places in its text and numbers; and the sheet that these mean. Assumes nothing.
 use Prim.Native.Nat.{ℕ, zero, suc, _+_, _*_, _<_, _≤_}
 use mathlib.Core.Path.{_≡_}
-use mathlib.Core.List.{List}
-use lib.Dec.{eqb}
+use mathlib.Core.Bool.{true, cond}
+use mathlib.Core.List.{List, [], _∷_}
+use lib.Dec.{ltb, eqb}
 use lib.ListN.{length, getD, take, drop}
 use lib.Seq.{slice}
 use Rattle.list.specs.Numbered.{rows}
@@ -11,15 +12,19 @@ use Rattle.text.specs.Answer.{Answer, Refused, Got}
 use Rattle.text.specs.Text.{split, pipe}
 use Rattle.signal.specs.Read.{SignalOk, signalIn}
 use Rattle.signal.specs.declared.SignalAt.{SignalAt}
-use Rattle.sheet.specs.Sheet.{kindOf, Clause, Event, Sheet, eventLimit, clauseLimit, nameLimit, intervalLimit, timeoutLimit, stopLimit, t0Limit, eveningLimit}
+use Rattle.sheet.specs.Sheet.{kindOf, exitIn, lotsIn, Clause, Event, Sheet, eventLimit, clauseLimit, nameLimit, intervalLimit, timeoutLimit, stopLimit, t0Limit, eveningLimit, lotsOk}
 use Rattle.sheet.specs.Read.{readSheet}
 use Rattle.sheet.specs.declared.SheetAt.{SheetAt}
 use Rattle.sheet.specs.declared.SheetRead.{SheetRead}
-use Rattle.sheet.specs.declared.SheetRead.the-variants.{Is, PastLimit, NotUtf8, Malformed, BadNumber, UnknownOperate, NotSeven, BadScore}
+use Rattle.sheet.specs.declared.SheetRead.the-variants.{Is, PastLimit, NotUtf8, Malformed, BadNumber, UnknownOperate, NotSeven, BadScore, BadLots}
 
 -- the fields of s in from..to
 abbrev pub fieldsOf : List ℕ → ℕ → ℕ → List (List ℕ)
 fieldsOf s from to = split pipe (slice from to s)
+
+-- the last field, behind the separator at r, where the line goes on there
+abbrev pub behind : List ℕ → ℕ → ℕ → List (List ℕ)
+behind s r to = cond (ltb r to) (slice (r + 1) to s ∷ []) []
 
 -- ---- clauses: nine numbers each
 
@@ -45,10 +50,16 @@ pub record ClauseOk (s l : List ℕ) : Type 0 where
 abbrev pub eventNumbers : ℕ
 eventNumbers = 6
 
--- 0 opening or 1 exit, the operate, where the name starts, its length, the first clause, how many clauses
+-- the kind and the lots, the operate, where the name starts, its length, the first clause, how many clauses
 unfoldable pub eventAt : List ℕ → List Clause → List ℕ → Event
 eventAt s cs l =
-    record { exit = eqb (getD l 0 0) 1; operate = getD l 1 0; name = part s (getD l 2 0) (getD l 3 0); clauses = take (getD l 5 0) (drop (getD l 4 0) cs) }
+    record {
+      exit = exitIn (getD l 0 0);
+      operate = getD l 1 0;
+      name = part s (getD l 2 0) (getD l 3 0);
+      lots = lotsIn (getD l 0 0);
+      clauses = take (getD l 5 0) (drop (getD l 4 0) cs);
+    }
 
 -- number j of event i
 abbrev pub eventNumber : List ℕ → ℕ → ℕ → ℕ
@@ -61,7 +72,8 @@ clausesBefore es (suc n) = clausesBefore es n + eventNumber es n 5
 
 -- its numbers l, where `before` clauses belong to earlier events
 pub record EventOk (s : List ℕ) (before : ℕ) (l : List ℕ) : Type 0 where
-  pub kind : getD l 0 0 ≤ 1
+  pub lots : lotsOk (lotsIn (getD l 0 0)) ≡ true
+  pub single : exitIn (getD l 0 0) ≡ true → lotsIn (getD l 0 0) ≡ 1
   pub operate : getD l 1 0 ≤ 6
   pub name : getD l 2 0 + getD l 3 0 ≤ length s
   pub brief : getD l 3 0 ≤ nameLimit
@@ -107,7 +119,7 @@ pub record SheetOk (s es cs : List ℕ) (a : SheetAt) : Type 0 where
   pub events : (i : ℕ) → i < a .events → EventOk s (clausesBefore es i) (drop (eventNumbers * i) es)
   pub all : clausesBefore es (a .events) ≡ a .clauses
   pub clauses : (i : ℕ) → i < a .clauses → ClauseOk s (drop (clauseNumbers * i) cs)
-  pub rise : (i : ℕ) → suc i < a .events → eventNumber es i 0 ≤ eventNumber es (suc i) 0
+  pub rise : (i : ℕ) → suc i < a .events → exitIn (eventNumber es i 0) ≡ true → exitIn (eventNumber es (suc i) 0) ≡ true
 
 -- ---- the answers
 
@@ -121,6 +133,7 @@ readOf s es cs BadNumber = Refused 3
 readOf s es cs UnknownOperate = Refused 4
 readOf s es cs NotSeven = Refused 5
 readOf s es cs BadScore = Refused 6
+readOf s es cs BadLots = Refused 18
 
 abbrev pub ReadOk : List ℕ → List ℕ → List ℕ → SheetRead → Type 0
 ReadOk s es cs (Is a) = SheetOk s es cs a
@@ -131,6 +144,7 @@ ReadOk s es cs BadNumber = Unit {0}
 ReadOk s es cs UnknownOperate = Unit {0}
 ReadOk s es cs NotSeven = Unit {0}
 ReadOk s es cs BadScore = Unit {0}
+ReadOk s es cs BadLots = Unit {0}
 
 -- r is the answer x, with es and cs as they are at exit
 pub record SheetIs (s es cs : List ℕ) (x : Answer Sheet) (r : SheetRead) : Type 0 where

@@ -14,7 +14,7 @@ use Rattle.utf8.specs.Alone.{text}
 use Rattle.stop.specs.Stop.{hundredthsOf}
 use Rattle.operate.specs.Operate.{operateOf}
 use Rattle.signal.specs.Signal.{signalOf}
-use Rattle.sheet.specs.Sheet.{Kind, All, Any, Not, Clause, Event, Sheet, clauseCount, eventLimit, clauseLimit, nameLimit, intervalLimit, timeoutLimit, stopLimit, t0Limit, eveningLimit}
+use Rattle.sheet.specs.Sheet.{Kind, All, Any, Not, Clause, Event, Sheet, clauseCount, eventLimit, clauseLimit, nameLimit, intervalLimit, timeoutLimit, stopLimit, t0Limit, eveningLimit, lotsOk}
 
 -- "at most .. 256 bytes a name or symbol" (7)
 abbrev pub name : List ℕ → Answer (List ℕ)
@@ -46,19 +46,33 @@ withEvents s es =
 abbrev pub anyExit : List Event → Bool
 anyExit es = anyOf (λ e. e .exit) es
 
+-- lots as they are said: 3 where they are no number; "18 when lots lie outside 1 to 1,000"
+abbrev pub lotsOf : List ℕ → Answer ℕ
+lotsOf field = given 3 (digitsTo 10 field) >>= λ n. must 18 (lotsOk n) >>= λ _. Got n
+
+-- "An O line may carry lots as a third value; missing means 1": of the fields behind the name
+abbrev pub lotsBehind : List (List ℕ) → Answer ℕ
+lotsBehind [] = Got 1
+lotsBehind (field ∷ _) = lotsOf field
+
+-- three fields; four on an O line that carries lots
+abbrev pub eventFields : Bool → ℕ → Bool
+eventFields exit n = eqb n 3 || not exit && eqb n 4
+
 -- "then events, `O|operate|name` (opening), all before `X|operate|name` (exit)"; at most 32
 unfoldable pub eventLine : Bool → Sheet → List (List ℕ) → Answer Sheet
 eventLine exit s f = do
-  _ ← must 2 (eqb (length f) 3 && (exit || not (anyExit (s .events))))
+  _ ← must 2 (eventFields exit (length f) && (exit || not (anyExit (s .events))))
   operate ← operateOf (getD f 1 [])
   n ← name (getD f 2 [])
+  lots ← lotsBehind (drop 3 f)
   _ ← must 7 (ltb (length (s .events)) eventLimit)
-  Got (withEvents s (s .events ++ record { exit = exit; operate = operate; name = n; clauses = [] } ∷ []))
+  Got (withEvents s (s .events ++ record { exit = exit; operate = operate; name = n; lots = lots; clauses = [] } ∷ []))
 
 -- the events with one clause more behind the last one's
 unfoldable pub addClause : Clause → List Event → List Event
 addClause c [] = []
-addClause c (e ∷ []) = record { exit = e .exit; operate = e .operate; name = e .name; clauses = e .clauses ++ c ∷ [] } ∷ []
+addClause c (e ∷ []) = record { exit = e .exit; operate = e .operate; name = e .name; lots = e .lots; clauses = e .clauses ++ c ∷ [] } ∷ []
 addClause c (e ∷ d ∷ es) = e ∷ addClause c (d ∷ es)
 
 -- "After an event come its clauses in any order: `A|signal` (all), `Y|signal` (any), `N|signal` (not)."; at most 256

@@ -1,8 +1,8 @@
 -- What a position sheet says. Assumes nothing.
-use Prim.Native.Nat.{ℕ, _+_}
-use mathlib.Core.Bool.{Bool, cond}
+use Prim.Native.Nat.{ℕ, _+_, _/_, _%_}
+use mathlib.Core.Bool.{Bool, cond, _&&_}
 use mathlib.Core.List.{List, [], _∷_}
-use lib.Dec.{eqb}
+use lib.Dec.{leb, eqb}
 use lib.ListN.{length}
 use Rattle.signal.specs.Signal.{Signal}
 
@@ -20,12 +20,21 @@ pub record Clause : Type 0 where
   pub kind : Kind
   pub signal : Signal
 
--- "`O|operate|name` (opening) .. `X|operate|name` (exit), any operate in either", with its clauses in the order of their lines
+-- "`O|operate|name` (opening) .. `X|operate|name` (exit), any operate in either", with its clauses in the order of their lines; "An O line may
+-- carry lots ..; missing means 1, and an X event always has 1"
 pub record Event : Type 0 where
   pub exit : Bool
   pub operate : ℕ
   pub name : List ℕ
+  pub lots : ℕ
   pub clauses : List Clause
+
+-- events by the number k of their kind, 0 opening or 1 exit, and twice the lots beyond the first: whether it is an exit, and its lots
+abbrev pub exitIn : ℕ → Bool
+exitIn k = eqb (k % 2) 1
+
+abbrev pub lotsIn : ℕ → ℕ
+lotsIn k = k / 2 + 1
 
 -- "`P|name|symbol|interval|timeout|stop|t0`": interval in seconds, timeout in bars, stop in hundredths of a basis point; "a seventh value ..
 -- minutes", those by which the trading day opens before midnight
@@ -73,3 +82,10 @@ t0Limit = 1
 -- "a seventh value, 0 to 1,439 minutes"
 abbrev pub eveningLimit : ℕ
 eveningLimit = 1_439
+
+-- "lots .. outside 1 to 1,000"
+abbrev pub lotsLimit : ℕ
+lotsLimit = 1_000
+
+abbrev pub lotsOk : ℕ → Bool
+lotsOk n = leb 1 n && leb n lotsLimit

@@ -21,7 +21,11 @@ pub const T0_LIMIT: u64 = 1;
 
 pub const EVENING_LIMIT: u64 = 1_439;
 
-// How many numbers are kept of an event: 0 opening or 1 exit, the operate, where the name starts, its length, the first clause, how many clauses.
+// The most lots of an event.
+pub const LOTS_LIMIT: u64 = 1_000;
+
+// How many numbers are kept of an event: its kind (0 opening or 1 exit, and twice the lots beyond the first), the operate, where the name starts,
+// its length, the first clause, how many clauses.
 pub const EVENT_NUMBERS: usize = 6;
 
 // And of a clause: 0 all, 1 any or 2 not, where the signal starts, the places behind its parts k1, k2, k3, v1, v2, v3 counted from there, the score.
@@ -50,4 +54,5 @@ pub enum SheetRead {
     UnknownOperate,
     NotSeven,
     BadScore,
+    BadLots,
 }

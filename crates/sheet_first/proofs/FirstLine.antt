@@ -4,10 +4,10 @@ use native.Mathlib.Omega.{arith}
 use native.Mathlib.Decide.{decLt}
 use mathlib.Core.Path.{_≡_, _∙_, refl, sym, ap}
 use mathlib.Core.Logic.{_≢_}
-use mathlib.Core.Bool.{Bool, true, false, cond, _&&_, _||_}
+use mathlib.Core.Bool.{Bool, true, false, _&&_, _||_}
 use mathlib.Core.List.{List, [], _∷_}
 use mathlib.Core.Option.{Option, none, some}
-use borrow.Author.Tests.{eq-eqb, ne-eqb, le-leb, lt-leb, lt-ltb, le-ltb}
+use borrow.Author.Tests.{eq-eqb, ne-eqb, le-leb, lt-leb}
 use lib.Dec.{leb, eqb}
 use lib.ListN.{length, getD}
 use lib.Seq.{slice, length-slice}
@@ -15,9 +15,7 @@ use Rattle.list.specs.Numbered.{numbered, rows}
 use Rattle.text.specs.Literal.{bytes, encoded}
 use Rattle.text.specs.Text.{same, split, onto, pipe, point}
 use Rattle.text.specs.Number.{atMost, digitsTo, unsigned}
-use Rattle.text.specs.Read.{Part, FirstAt}
-use Rattle.text.proofs.Parts.{split-some, split-next, split-last}
-use Rattle.text.proofs.Cut.{cut}
+use Rattle.text.specs.Read.{Part}
 use Rattle.text_number.specs.Read.{numberOf}
 use Rattle.text_number.specs.declared.Number.{Number}
 use Rattle.text_number.specs.declared.Number.the-variants.{Is as Number·Is}
@@ -25,11 +23,11 @@ use Rattle.text_number.proofs.Digits.{at-most}
 use Rattle.stop.specs.Stop.{hundredthsIn, stopIn, hundredthsOf}
 use Rattle.sheet.specs.Sheet.{nameLimit, intervalLimit, timeoutLimit, stopLimit, t0Limit, eveningLimit}
 use Rattle.sheet.specs.Read.{minutesIn, positionLine}
-use Rattle.sheet.specs.Places.{fieldsOf, sheetAt, clausesBefore}
+use Rattle.sheet.specs.Places.{fieldsOf, behind, sheetAt, clausesBefore}
 use Rattle.sheet.specs.declared.SheetRead.{SheetRead}
 use Rattle.sheet.specs.declared.SheetRead.the-variants.{Is, PastLimit, Malformed, BadNumber}
-use Rattle.sheet.proofs.Fields.{Cut, last-field, split-few, tag-other, tag-long, two-first}
-use Rattle.sheet_first.specs.First.{Names, behind, settingsLine, SettingsAs, PositionAs}
+use Rattle.sheet.proofs.Fields.{Field, LastTwo, split-few, tag-other, tag-long, two-first}
+use Rattle.sheet_first.specs.First.{Names, settingsLine, SettingsAs, PositionAs}
 
 -- ---- one number
 
@@ -38,34 +36,6 @@ number-over {r} {v} {o} hi e k h = sym (ap (atMost hi) (sym e ∙ ap numberOf k)
 
 pub number-in : {r : Number} {v : ℕ} {o : Option ℕ} (hi : ℕ) → numberOf r ≡ o → r ≡ Number·Is v → v ≤ hi → some v ≡ atMost hi o
 number-in {r} {v} {o} hi e k h = sym (ap (atMost hi) (sym e ∙ ap numberOf k) ∙ rw (le-leb v hi h))
-
--- ---- fields
-
--- the field that ends at r, with others behind it
-abbrev pub Field : List ℕ → ℕ → ℕ → ℕ → Type 0
-Field s from to r = Cut s from to r (length (fieldsOf s from to) - 1)
-
-pub field : {s : List ℕ} {from to r : ℕ} → Part s from to → FirstAt s from to pipe r → 2 ≤ length (fieldsOf s from to) → Field s from to r
-field p f h = cut p f (omega arith) (omega arith)
-
--- the last field, or the last but one and the one behind it
-pub record LastTwo (s : List ℕ) (from to r : ℕ) : Type 0 where
-  pub fields : fieldsOf s from to ≡ slice from r s ∷ behind s r to
-  pub rest : Part s r to
-
-pub last-two : {s : List ℕ} {from to r : ℕ} → Part s from to → FirstAt s from to pipe r → length (fieldsOf s from to) ≤ 2 → LastTwo s from to r
-last-two {s} {from} {to} {r} p f h = record {
-  fields = elim (decLt r to) [ yes l ↦ more l | no l ↦ one (omega (arith, f .high)) ];
-  rest = record { order = f .high; within = p .within };
-}
-  where
-    more : r < to → fieldsOf s from to ≡ slice from r s ∷ behind s r to
-    more l =
-        let e = split-next p f l in
-        e ∙ rw (lt-ltb r to l, last-field s (r + 1) to (omega (arith, ap length e, split-some pipe (slice (r + 1) to s)))) refl
-
-    one : r ≡ to → fieldsOf s from to ≡ slice from r s ∷ behind s r to
-    one e = split-last p f e ∙ rw (le-ltb r to (omega arith), e)
 
 -- ---- the numbers
 

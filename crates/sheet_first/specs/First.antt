@@ -1,8 +1,7 @@
 -- What the reading of a first line means, for the contracts of its functions. Assumes nothing.
 use Prim.Native.Nat.{ℕ, _+_, _<_, _≤_}
-use mathlib.Core.Bool.{cond}
-use mathlib.Core.List.{List, [], _∷_}
-use lib.Dec.{ltb, eqb}
+use mathlib.Core.List.{List, []}
+use lib.Dec.{eqb}
 use lib.ListN.{length, getD, drop}
 use lib.Seq.{slice}
 use Rattle.text.specs.Answer.{Answer, Got, _>>=_, given}
@@ -31,10 +30,6 @@ settingsLine n s f = do
   t0 ← unsigned t0Limit (getD f 3 [])
   evening ← given 3 (minutesIn (drop 4 f))
   Got (record { name = n; symbol = s; interval = interval; timeout = timeout; stop = stop; t0 = eqb t0 1; evening = evening; events = [] })
-
--- the field behind the separator at r, where the line goes on there
-abbrev pub behind : List ℕ → ℕ → ℕ → List (List ℕ)
-behind s r to = cond (ltb r to) (slice (r + 1) to s ∷ []) []
 
 -- r is what the numbers say, whatever the events and the clauses will be
 abbrev pub SettingsAs : List ℕ → ℕ → ℕ → ℕ → SheetRead → Type 0

@@ -21,8 +21,8 @@ ghost use Rattle.text.specs.Number.{atMost, digitsTo};
 ghost use Rattle.text.specs.Read.{Part};
 ghost use Rattle.text_number.specs.Read.{numberOf};
 ghost use Rattle.sheet.specs.Read.{minutesIn};
-ghost use Rattle.sheet.specs.Places.{fieldsOf};
-ghost use Rattle.sheet_first.specs.First.{Names, behind, SettingsAs, PositionAs};
+ghost use Rattle.sheet.specs.Places.{fieldsOf, behind};
+ghost use Rattle.sheet_first.specs.First.{Names, SettingsAs, PositionAs};
 
 // The number in the field from..to, where it is not above hi.
 fn unsigned(s: &[u8], from: usize, to: usize, hi: u64) -> Number

@@ -5,15 +5,25 @@ use native.Mathlib.Decide.{decLe}
 use mathlib.Core.Path.{_≡_, _∙_, refl, sym}
 use mathlib.Core.Bool.{Bool, true, false, cond, _||_}
 use mathlib.Core.List.{List, [], _∷_, _++_}
-use borrow.Author.Tests.{eqb-true, eq-eqb}
 use lib.ListN.{length, drop, length-drop}
 use lib.Seq.{length-take-le}
 use Rattle.list.specs.Numbered.{numbered, rows}
 use Rattle.list.proofs.Laws.{rows-length}
 use Rattle.text.specs.Conditions.{anyOf}
-use Rattle.sheet.specs.Sheet.{Event, clauseCount}
+use Rattle.sheet.specs.Sheet.{Event, clauseCount, exitIn}
 use Rattle.sheet.specs.Read.{anyExit}
-use Rattle.sheet.specs.Places.{clauseAt, clausesAt, clauseNumbers, eventAt, eventNumbers, eventNumber, clausesBefore, sheetAt, SettingsOk, SheetOk}
+use Rattle.sheet.specs.Places.{
+  clauseAt,
+  clausesAt,
+  clauseNumbers,
+  eventAt,
+  eventNumbers,
+  eventNumber,
+  clausesBefore,
+  sheetAt,
+  SettingsOk,
+  SheetOk,
+}
 use Rattle.sheet.specs.declared.SheetAt.{SheetAt}
 use Rattle.sheet_numbers.specs.Counted.{counted, lastExit}
 
@@ -113,8 +123,8 @@ module _ {s es cs : List ℕ} {a : SheetAt} (ok : SheetOk s es cs a) where
 
   pub exit-last : anyExit (sheetAt s es cs a .events) ≡ lastExit es (a .events)
   unfolding sheetAt rows event eventAt numbered anyOf
-  exit-last = go (a .events) (λ i h. ok .rise i h) (λ i h. ok .events i h .kind)
+  exit-last = go (a .events) (λ i h. ok .rise i h)
     where
-      go : (n : ℕ) → ((i : ℕ) → suc i < n → eventNumber es i 0 ≤ eventNumber es (suc i) 0) → ((i : ℕ) → i < n → eventNumber es i 0 ≤ 1) → anyExit (numbered event n) ≡ lastExit es n
-      go zero h k = refl
-      go (suc n) h k = any-last event n (λ i g e. eq-eqb (eventNumber es (suc i) 0) 1 (omega (arith, eqb-true (eventNumber es i 0) 1 e, h i (omega arith), k (suc i) (omega arith))))
+      go : (n : ℕ) → ((i : ℕ) → suc i < n → exitIn (eventNumber es i 0) ≡ true → exitIn (eventNumber es (suc i) 0) ≡ true) → anyExit (numbered event n) ≡ lastExit es n
+      go zero h = refl
+      go (suc n) h = any-last event n (λ i g e. h i (omega arith) e)

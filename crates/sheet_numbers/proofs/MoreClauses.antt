@@ -12,7 +12,7 @@ use Rattle.list.proofs.Laws.{rows-length}
 use Rattle.le.specs.Le.{patch}
 use Rattle.signal.specs.Read.{SignalOk, signalIn}
 use Rattle.signal.specs.declared.SignalAt.{SignalAt}
-use Rattle.sheet.specs.Sheet.{kindOf, Clause, Event, clauseLimit}
+use Rattle.sheet.specs.Sheet.{kindOf, Clause, Event, clauseLimit, exitIn}
 use Rattle.sheet.specs.Read.{withEvents, addClause}
 use Rattle.sheet.specs.Places.{clauseAt, clausesAt, clausesBefore, ClauseOk, eventAt, eventNumber, EventOk, sheetAt, SheetOk}
 use Rattle.sheet.specs.declared.SheetAt.{SheetAt}
@@ -24,7 +24,7 @@ use Rattle.sheet_numbers.proofs.Counts.{before-next, before-same, span-
 
 -- an event with one clause more
 abbrev withClause : Clause → Event → Event
-withClause c e = record { exit = e .exit; operate = e .operate; name = e .name; clauses = e .clauses ++ c ∷ [] }
+withClause c e = record { exit = e .exit; operate = e .operate; name = e .name; lots = e .lots; clauses = e .clauses ++ c ∷ [] }
 
 add-last : (c : Clause) (es : List Event) (e : Event) → addClause c (es ++ e ∷ []) ≡ es ++ withClause c e ∷ []
 unfolding addClause
@@ -183,5 +183,5 @@ module _ {s es cs : List ℕ} {a : SheetAt} (ok : SheetOk s es cs a) {last kind 
     events = events-ok;
     all = before-all;
     clauses = clauses-ok;
-    rise = λ i h. omega (arith, ok .rise i h, kept-number i 0 (omega (arith, e .behind)), kept-number (suc i) 0 (omega (arith, e .behind)));
+    rise = λ i h x. ap (λ k. exitIn k) (kept-number (suc i) 0 (omega (arith, e .behind))) ∙ ok .rise i h (sym (ap (λ k. exitIn k) (kept-number i 0 (omega (arith, e .behind)))) ∙ x);
   }

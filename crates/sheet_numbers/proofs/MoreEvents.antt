@@ -6,13 +6,11 @@ use native.Mathlib.Numerals.{add-one}
 use mathlib.Core.Path.{_≡_, _∙_, refl, sym, ap}
 use mathlib.Core.Bool.{Bool, true, false, not, _||_, false≢true}
 use mathlib.Core.List.{List, [], _∷_, _++_}
-use borrow.Author.Tests.{eqb-true, eqb-false}
-use lib.Dec.{eqb}
 use lib.ListN.{length, getD, take, drop}
 use lib.Seq.{take-take}
 use Rattle.list.specs.Numbered.{rows}
 use Rattle.le.specs.Le.{part, patch}
-use Rattle.sheet.specs.Sheet.{Event, eventLimit, nameLimit}
+use Rattle.sheet.specs.Sheet.{Event, eventLimit, nameLimit, lotsOk, exitIn, lotsIn}
 use Rattle.sheet.specs.Read.{withEvents}
 use Rattle.sheet.specs.Places.{clausesAt, clausesBefore, eventAt, eventNumber, EventOk, sheetAt, SheetOk}
 use Rattle.sheet.specs.declared.SheetAt.{SheetAt}
@@ -24,7 +22,8 @@ use Rattle.sheet_numbers.proofs.Counts.{before-next, before-same, setti
 pub record EventNumbers (s es : List ℕ) (a : SheetAt) (kind operate from len : ℕ) : Type 0 where
   pub room : length es ≡ 192
   pub free : a .events < eventLimit
-  pub kind-low : kind ≤ 1
+  pub lots : lotsOk (lotsIn kind) ≡ true
+  pub single : exitIn kind ≡ true → lotsIn kind ≡ 1
   pub operate-low : operate ≤ 6
   pub within : from + len ≤ length s
   pub brief : len ≤ nameLimit
@@ -61,14 +60,14 @@ module _ {s es cs : List ℕ} {a : SheetAt} (ok : SheetOk s es cs a) {kind opera
   here-five = sym (take-take 5 6 (drop (6 * a .events) after) (omega arith)) ∙ ap (take 5) here
 
   new : Event
-  new = record { exit = eqb kind 1; operate = operate; name = part s from len; clauses = [] }
+  new = record { exit = exitIn kind; operate = operate; name = part s from len; lots = lotsIn kind; clauses = [] }
 
   new-is : eventAt s (clausesAt s cs a) (drop (6 * a .events) after) ≡ new
   unfolding eventAt row new
   new-is = event-same (drop (6 * a .events) after) row here-five s (clausesAt s cs a) (new-number 5 (omega arith))
 
   pub event-added : sheetAt s (patch es (6 * a .events) (kind ∷ operate ∷ from ∷ len ∷ a .clauses ∷ 0 ∷ [])) cs (counted a (a .events + 1) (a .clauses))
-      ≡ withEvents (sheetAt s es cs a) (sheetAt s es cs a .events ++ record { exit = eqb kind 1; operate = operate; name = part s from len; clauses = [] } ∷ [])
+      ≡ withEvents (sheetAt s es cs a) (sheetAt s es cs a .events ++ record { exit = exitIn kind; operate = operate; name = part s from len; lots = lotsIn kind; clauses = [] } ∷ [])
   unfolding sheetAt after row new
   event-added = ap (withEvents (sheetAt s es cs a)) (rw add-one (
       rows-snoc (eventAt s (clausesAt s cs a)) (eventAt s (clausesAt s cs a)) 6 (a .events) es after (λ i h. event-same (drop (6 * i) after) (drop (6 * i) es) (earlier i 5 h (omega arith)) s (clausesAt s cs a) (old-number i 5 h (omega arith)))
@@ -87,30 +86,30 @@ module _ {s es cs : List ℕ} {a : SheetAt} (ok : SheetOk s es cs a) {kind opera
   ]
     where
       fresh : EventOk s (clausesBefore es (a .events)) row
-      fresh = record { kind = e .kind-low; operate = e .operate-low; name = e .within; brief = e .brief; clauses = sym (ok .all) }
+      fresh = record { lots = e .lots; single = e .single; operate = e .operate-low; name = e .within; brief = e .brief; clauses = sym (ok .all) }
 
   before-all : clausesBefore after (a .events + 1) ≡ a .clauses
   unfolding row
   before-all = rw add-one (omega (arith, before-next after (a .events), before-old (a .events) (omega arith), new-number 5 (omega arith), ok .all))
 
-  last-rises : (i : ℕ) → suc i ≡ a .events → eventNumber es i 0 ≤ kind
-  last-rises i h = go (eqb kind 1) refl (eqb (eventNumber es i 0) 1) refl (ap (λ n. eqb kind 1 || not (lastExit es n)) h ∙ e .place)
+  last-rises : (i : ℕ) → suc i ≡ a .events → exitIn (eventNumber es i 0) ≡ true → exitIn kind ≡ true
+  last-rises i h = go (exitIn kind) (exitIn (eventNumber es i 0)) (ap (λ n. exitIn kind || not (lastExit es n)) h ∙ e .place)
     where
-      low : eventNumber es i 0 ≤ 1
-      low = ok .events i (omega arith) .kind
+      go : (t u : Bool) → (t || not u) ≡ true → u ≡ true → t ≡ true
+      go true u r q = refl
+      go false true r q = absurd (false≢true r)
+      go false false r q = absurd (false≢true q)
 
-      go : (t : Bool) → eqb kind 1 ≡ t → (u : Bool) → eqb (eventNumber es i 0) 1 ≡ u → (t || not u) ≡ true → eventNumber es i 0 ≤ kind
-      go true p u q r = omega (arith, low, eqb-true kind 1 p)
-      go false p true q r = absurd (false≢true r)
-      go false p false q r = omega (arith, low, eqb-false (eventNumber es i 0) 1 q)
-
-  rises : (i : ℕ) → suc i < a .events + 1 → eventNumber after i 0 ≤ eventNumber after (suc i) 0
+  rises : (i : ℕ) → suc i < a .events + 1 → exitIn (eventNumber after i 0) ≡ true → exitIn (eventNumber after (suc i) 0) ≡ true
   unfolding row
-  rises i h = elim (decLt (suc i) (a .events)) [
-    | yes l ↦ omega (arith, old-number i 0 (omega arith) (omega arith), old-number (suc i) 0 l (omega arith), ok .rise i l)
+  rises i h x = elim (decLt (suc i) (a .events)) [
+    | yes l ↦ ap (λ k. exitIn k) (old-number (suc i) 0 l (omega arith)) ∙ ok .rise i l was
     | no l ↦ let g : suc i ≡ a .events = omega arith in
-        omega (arith, old-number i 0 (omega arith) (omega arith), ap (λ n. eventNumber after n 0) g, new-number 0 (omega arith), last-rises i g)
+        ap (λ k. exitIn k) (ap (λ n. eventNumber after n 0) g ∙ new-number 0 (omega arith)) ∙ last-rises i g was
   ]
+    where
+      was : exitIn (eventNumber es i 0) ≡ true
+      was = sym (ap (λ k. exitIn k) (old-number i 0 (omega arith) (omega arith))) ∙ x
 
   pub event-ok : SheetOk s (patch es (6 * a .events) (kind ∷ operate ∷ from ∷ len ∷ a .clauses ∷ 0 ∷ [])) cs (counted a (a .events + 1) (a .clauses))
   unfolding after row

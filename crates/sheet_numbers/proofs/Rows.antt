@@ -40,7 +40,8 @@ module _ (l m : List ℕ) (e : take 5 l ≡ take 5 m) where
 
   pub event-ok-same : {s : List ℕ} {n : ℕ} → EventOk s n l → EventOk s n m
   event-ok-same k = record {
-    kind = omega (arith, e0);
+    lots = rw e0 at (k .lots);
+    single = rw e0 at (k .single);
     operate = omega (arith, e1);
     name = omega (arith, e2, e3);
     brief = omega (arith, e3);

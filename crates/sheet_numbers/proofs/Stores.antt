@@ -1,5 +1,5 @@
 -- Numbers written one behind another, an event's count, and where an event may stand. Assumes nothing.
-use Prim.Native.Nat.{ℕ, suc, _+_, _-_, _*_, _≤_}
+use Prim.Native.Nat.{ℕ, suc, _+_, _-_, _*_, _%_, _≤_}
 use native.Mathlib.Omega.{arith}
 use native.Mathlib.Numerals.{add-one, add-two}
 use mathlib.Core.Path.{_≡_, _∙_, sym, ap}
@@ -7,11 +7,11 @@ use mathlib.Core.Logic.{_≢_}
 use mathlib.Core.Bool.{true, not}
 use mathlib.Core.List.{List, [], _∷_, _++_}
 use borrow.Author.Tests.{eq-eqb, ne-eqb}
-use lib.Dec.{eqb}
 use lib.ListN.{length, getD, set}
 use lib.Seq.{sets-eq, getD-drop}
 use Rattle.le.specs.Le.{patch}
 use Rattle.le.proofs.Laws.{patch-patch}
+use Rattle.sheet.specs.Sheet.{exitIn}
 use Rattle.sheet.specs.Places.{eventNumber}
 use Rattle.sheet_numbers.specs.Counted.{lastExit, inPlace}
 
@@ -36,17 +36,17 @@ one-more es i h = rw (number-at es i 5) (sets-eq ((getD es (6 * i + 5) 0 + 1) �
 -- ---- where an event may stand
 
 module _ (es : List ℕ) (n kind : ℕ) where
-  pub exit-anywhere : kind ≡ 1 → true ≡ inPlace es n kind
-  exit-anywhere e = rw (eq-eqb kind 1 e)
+  pub exit-anywhere : kind % 2 ≡ 1 → true ≡ inPlace es n kind
+  exit-anywhere e = rw (eq-eqb (kind % 2) 1 e)
 
-  module _ (k : kind ≢ 1) where
+  module _ (k : kind % 2 ≢ 1) where
     pub opening-first : n ≡ 0 → true ≡ inPlace es n kind
-    opening-first e = rw (ne-eqb kind 1 k, e)
+    opening-first e = rw (ne-eqb (kind % 2) 1 k, e)
 
-    pub opening-behind : n ≢ 0 → not (eqb (getD es (6 * (n - 1)) 0) 1) ≡ inPlace es n kind
+    pub opening-behind : n ≢ 0 → not (exitIn (getD es (6 * (n - 1)) 0)) ≡ inPlace es n kind
     opening-behind h =
         let e : n ≡ suc (n - 1) = omega arith in
-        rw (ne-eqb kind 1 k) (ap not (ap (λ x. eqb x 1) (same (n - 1)) ∙ sym (ap (lastExit es) e)))
+        rw (ne-eqb (kind % 2) 1 k) (ap not (ap (λ x. exitIn x) (same (n - 1)) ∙ sym (ap (lastExit es) e)))
       where
         same : (i : ℕ) → getD es (6 * i) 0 ≡ eventNumber es i 0
         same i =

@@ -2,8 +2,8 @@
 use Prim.Native.Nat.{ℕ, zero, suc, _<_}
 use mathlib.Core.Bool.{Bool, false, not, _||_}
 use mathlib.Core.List.{List}
-use lib.Dec.{eqb}
 use Rattle.signal.specs.declared.SignalAt.{SignalAt}
+use Rattle.sheet.specs.Sheet.{exitIn}
 use Rattle.sheet.specs.Places.{eventNumber}
 use Rattle.sheet.specs.declared.SheetAt.{SheetAt}
 
@@ -15,11 +15,11 @@ counted a e c =
 -- whether the last of n events is an exit
 abbrev pub lastExit : List ℕ → ℕ → Bool
 lastExit es zero = false
-lastExit es (suc i) = eqb (eventNumber es i 0) 1
+lastExit es (suc i) = exitIn (eventNumber es i 0)
 
--- whether an event of this kind, 0 opening or 1 exit, may come behind n events
+-- whether an event of this kind, with whatever lots, may come behind n events
 abbrev pub inPlace : List ℕ → ℕ → ℕ → Bool
-inPlace es n kind = eqb kind 1 || not (lastExit es n)
+inPlace es n kind = exitIn kind || not (lastExit es n)
 
 -- the numbers of a signal fit 16 bits
 pub record Narrow (g : SignalAt) : Type 0 where

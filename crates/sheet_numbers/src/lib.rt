@@ -22,7 +22,7 @@ fn put_three(l: &mut [u16], at: usize, a: u16, b: u16, c: u16)
     l[at + 2] = c;
 }
 
-// Writes event n, which has no clause yet: its kind, its operate, where its name starts, the name's length, and its first clause.
+// Writes event n, which has no clause yet: its kind with its lots, its operate, where its name starts, the name's length, and its first clause.
 pub fn put_event(
     events: &mut [u16],
     n: usize,
@@ -79,16 +79,16 @@ pub fn with_counts(a: SheetAt, events: usize, clauses: usize) -> SheetAt
     b
 }
 
-// Whether an event of this kind, 0 opening or 1 exit, may come behind n events.
+// Whether an event of this kind, with whatever lots, may come behind n events.
 pub fn in_place(events: &[u16], n: usize, kind: u16) -> bool
     requires { ⌜ 6 * n ≤ length (now events) ⌝ }
     ensures { λ r. ⌜ r ≡ inPlace (now (events .entry)) n kind ⌝ }
 {
-    if kind == 1 {
+    if kind % 2 == 1 {
         return true;
     }
     if n == 0 {
         return true;
     }
-    events[EVENT_NUMBERS * (n - 1)] != 1
+    events[EVENT_NUMBERS * (n - 1)] % 2 != 1
 }

@@ -23,7 +23,7 @@ use Rattle.sheet.specs.Read.{sheetLine, laterLine, positionLine, readSheet}
 use Rattle.sheet.specs.Places.{fieldsOf, sheetAt, readOf, SheetOk, ReadOk, SheetIs, SheetAs}
 use Rattle.sheet.specs.declared.SheetAt.{SheetAt}
 use Rattle.sheet.specs.declared.SheetRead.{SheetRead}
-use Rattle.sheet.specs.declared.SheetRead.the-variants.{Is, PastLimit, NotUtf8, Malformed, BadNumber, UnknownOperate, NotSeven, BadScore}
+use Rattle.sheet.specs.declared.SheetRead.the-variants.{Is, PastLimit, NotUtf8, Malformed, BadNumber, UnknownOperate, NotSeven, BadScore, BadLots}
 use Rattle.sheet.proofs.SheetRead.{the-type}
 use Rattle.sheet_first.specs.First.{PositionAs}
 use Rattle.sheet_read.specs.Lines.{linesOn, LineAs, LinesAs}
@@ -40,6 +40,7 @@ Refuses BadNumber = Unit {0}
 Refuses UnknownOperate = Unit {0}
 Refuses NotSeven = Unit {0}
 Refuses BadScore = Unit {0}
+Refuses BadLots = Unit {0}
 
 -- a refusal of one step is one of the whole
 stays : {s es cs : List ℕ} {x : Answer Sheet} (r : SheetRead) → Refuses r → SheetIs s es cs x r → (k : Sheet → Answer Sheet) (y : Answer Sheet) → y ≡ (x >>= k) → SheetIs s es cs y r
@@ -51,6 +52,7 @@ stays BadNumber h i k y e = record { is = ap (λ x. x >>= k) (i .is) ∙ sym e; 
 stays UnknownOperate h i k y e = record { is = ap (λ x. x >>= k) (i .is) ∙ sym e; ok = tt }
 stays NotSeven h i k y e = record { is = ap (λ x. x >>= k) (i .is) ∙ sym e; ok = tt }
 stays BadScore h i k y e = record { is = ap (λ x. x >>= k) (i .is) ∙ sym e; ok = tt }
+stays BadLots h i k y e = record { is = ap (λ x. x >>= k) (i .is) ∙ sym e; ok = tt }
 
 -- one line more, then the others
 folded : (x : Answer Sheet) (k : Option Sheet → Answer (Option Sheet)) → (((x >>= λ t. Got (some t)) >>= k) >>= given 2) ≡ (x >>= λ t. k (some t) >>= given 2)
@@ -157,8 +159,8 @@ not-0 : (n : ℕ) → 0 ≡ suc n → ⊥
 not-0 n e = omega arith
 
 -- an answer whose tag is not that of a sheet
-pub tag-refuses : (r : SheetRead) → OneOf (1 ∷ 2 ∷ 3 ∷ 4 ∷ 5 ∷ 6 ∷ 7 ∷ []) (tagOf the-type r) → Refuses r
-tag-refuses (Is a) h = ⊎-elim (not-0 0) (⊎-elim (not-0 1) (⊎-elim (not-0 2) (⊎-elim (not-0 3) (⊎-elim (not-0 4) (⊎-elim (not-0 5) (not-0 6)))))) h
+pub tag-refuses : (r : SheetRead) → OneOf (1 ∷ 2 ∷ 3 ∷ 4 ∷ 5 ∷ 6 ∷ 7 ∷ 8 ∷ []) (tagOf the-type r) → Refuses r
+tag-refuses (Is a) h = ⊎-elim (not-0 0) (⊎-elim (not-0 1) (⊎-elim (not-0 2) (⊎-elim (not-0 3) (⊎-elim (not-0 4) (⊎-elim (not-0 5) (⊎-elim (not-0 6) (not-0 7))))))) h
 tag-refuses PastLimit h = tt
 tag-refuses NotUtf8 h = tt
 tag-refuses Malformed h = tt
@@ -166,3 +168,4 @@ tag-refuses BadNumber h = tt
 tag-refuses UnknownOperate h = tt
 tag-refuses NotSeven h = tt
 tag-refuses BadScore h = tt
+tag-refuses BadLots h = tt

@@ -14,7 +14,7 @@ use Rattle.text.specs.Literal.{bytes, encoded}
 use Rattle.text.specs.Text.{same, split, onto, pipe}
 use Rattle.text.specs.Read.{Part}
 use Rattle.sheet.specs.Sheet.{Sheet, Kind, All, Any, Not, kindOf}
-use Rattle.sheet.specs.Read.{eventLine, clauseLine, laterLine}
+use Rattle.sheet.specs.Read.{eventFields, eventLine, clauseLine, laterLine}
 use Rattle.sheet.specs.Places.{fieldsOf, sheetAt, SheetOk}
 use Rattle.sheet.specs.declared.SheetAt.{SheetAt}
 use Rattle.sheet.specs.declared.SheetRead.{SheetRead}
@@ -33,9 +33,13 @@ no-tag : (q : Sheet) (f : List (List ℕ)) → let tag = getD f 0 [] in
 unfolding laterLine bytes encoded
 no-tag q f o x a y n = rw (o, x, a, y, n)
 
+too-few : (exit : Bool) (n : ℕ) → n ≤ 1 → eventFields exit n ≡ false
+too-few true n h = rw (ne-eqb n 3 (omega arith))
+too-few false n h = rw (ne-eqb n 3 (omega arith)) (ne-eqb n 4 (omega arith))
+
 event-one : (exit : Bool) (q : Sheet) (f : List (List ℕ)) → length f ≤ 1 → eventLine exit q f ≡ Refused 2
 unfolding eventLine
-event-one exit q f h = rw (ne-eqb (length f) 3 (omega arith))
+event-one exit q f h = rw (too-few exit (length f) h)
 
 clause-one : (kind : Kind) (q : Sheet) (f : List (List ℕ)) → length f ≤ 1 → clauseLine kind q f ≡ Refused 2
 unfolding clauseLine

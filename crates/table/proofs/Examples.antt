@@ -1,9 +1,9 @@
 -- Case *1's table, byte by byte: it means case *1's sheet; and what breaks each condition on a table. Assumes nothing.
 use Prim.Native.Nat.{ℕ}
 use mathlib.Core.Bool.{true, false}
-use mathlib.Core.List.{List, [], _∷_, _++_}
+use mathlib.Core.List.{List, [], _∷_, _++_, map}
 use mathlib.Core.Path.{_≡_, refl}
-use lib.ListN.{drop, replicate}
+use lib.ListN.{getD, drop, replicate}
 use Rattle.le.specs.Le.{patch}
 use Rattle.le.specs.Field.{put16, put32}
 use Rattle.text.specs.Answer.{Answer, Refused, Got, _>>=_}
@@ -54,12 +54,14 @@ meant =
             exit = false;
             operate = LO;
             name = bytes "go";
+            lots = 1;
             clauses = record { kind = All; signal = record { key = bytes "d1_u_w"; v1 = bytes "up"; v2 = bytes "任意"; v3 = bytes "任意"; score = 10 } } ∷ [];
           }
           ∷ record {
             exit = true;
             operate = LE;
             name = bytes "out";
+            lots = 1;
             clauses = record { kind = All; signal = record { key = bytes "d1_u_w"; v1 = bytes "down"; v2 = bytes "任意"; v3 = bytes "任意"; score = 0 } } ∷ [];
           }
           ∷ [];
@@ -96,10 +98,19 @@ header : (changed 0 (put32 0xff00_0003) ≡ Refused 9) × (changed 4 (put32 4102
 unfolding opened soy
 header = (refl, refl, refl, refl, refl, refl, refl, refl, refl)
 
--- an event's kind, operate, name, clauses
-events : (changed 80 (put16 2) ≡ Refused 9) × (changed 82 (put16 7) ≡ Refused 9) × (changed 86 (put16 3) ≡ Refused 9) × (changed 102 (put16 2) ≡ Refused 9)
+-- the lots stand above an event's kind: 5, 1,000; past their limit; an exit with two
+abbrev firstLots : Answer Sheet → Answer ℕ
+firstLots x = x >>= λ s. Got (getD (map (λ e. e .lots) (s .events)) 0 0)
+
+lots : (firstLots (changed 80 (put16 8)) ≡ Got 5) × (firstLots (changed 80 (put16 1_998)) ≡ Got 1_000)
+    × (changed 80 (put16 2_000) ≡ Refused 9) × (changed 80 (put16 3) ≡ Refused 9) × (changed 80 (put16 65_534) ≡ Refused 9)
 unfolding opened soy
-events = (refl, refl, refl, refl)
+lots = (refl, refl, refl, refl, refl)
+
+-- an event's operate, name, clauses
+events : (changed 82 (put16 7) ≡ Refused 9) × (changed 86 (put16 3) ≡ Refused 9) × (changed 102 (put16 2) ≡ Refused 9)
+unfolding opened soy
+events = (refl, refl, refl)
 
 -- a clause's kind, key, value codes 0 and 3, score
 clauses : (changed 104 (put16 3) ≡ Refused 9) × (changed 106 (put16 1) ≡ Refused 9) × (changed 108 (put16 0) ≡ Refused 9)

@@ -1,15 +1,19 @@
--- What is known of bytes that are a table: their length, and how many events the sheet has that they mean. Assumes nothing.
+-- What is known of bytes that are a table: their length, and how many events the sheet has that they mean, with which lots. Assumes nothing.
 use Prim.Native.Nat.{ℕ, _≤_}
 use native.Mathlib.Omega.{arith}
-use mathlib.Core.Bool.{Bool, true, false, _&&_}
-use mathlib.Core.List.{List}
+use mathlib.Core.Bool.{Bool, true, false, _&&_, and-eq-true-iff}
+use mathlib.Core.List.{List, [], _∷_, map}
 use mathlib.Core.Path.{_≡_, refl}
 use lib.ListN.{length, length-map}
 use Rattle.text.specs.Answer.{Got, _>>=_, must}
-use Rattle.sheet.specs.Sheet.{Sheet, eventLimit}
+use Rattle.text.specs.Conditions.{every}
+use Rattle.text.proofs.Conditions.{fact}
+use Rattle.sheet.specs.Sheet.{Clause, Sheet, eventLimit, lotsOk, lotsIn}
 use Rattle.table.specs.Layout.{tableLength, countsIn, partsIn}
-use Rattle.table.specs.Table.{headOk, partsOk, isTable, sheetOf, readTable}
+use Rattle.table.specs.Table.{headOk, eventOk, eventsOk, partsOk, isTable, eventOf, sheetOf, readTable}
+use Rattle.table.specs.declared.EventRow.{EventRow}
 use Rattle.table.proofs.Heads.{headed, events-many}
+use Rattle.table.proofs.Spans.{both}
 
 -- the bytes are a table, and the sheet is theirs
 pub read-is : (t : List ℕ) (s : Sheet) → readTable t ≡ Got s → (isTable t ≡ true) × (sheetOf (partsIn t) ≡ s)
@@ -40,3 +44,19 @@ pub table-events : (t : List ℕ) (s : Sheet) → readTable t ≡ Got s → leng
 table-events t s e =
     let r = read-is t s e in
     rw (← r .1, events-count t) (headed t (table-facts t (r .0) .0) .events-few)
+
+-- events whose rows are right
+lots-right : (names : List ℕ) (cs : List Clause) (es : List EventRow) → every (eventOk names) es ≡ true
+    → every (λ e. lotsOk (e .lots)) (map (eventOf names cs) es) ≡ true
+unfolding every eventOk eventOf
+lots-right names cs [] h = refl
+lots-right names cs (e ∷ es) h =
+    let b = both (eventOk names e) (every (eventOk names) es) h in
+    let fine : lotsOk (lotsIn (e .kind)) ≡ true = and-eq-true-iff (lotsOk (lotsIn (e .kind))) _ .0 (fact _ (b .0) 0) .0 in
+    rw fine (lots-right names cs es (b .1))
+
+pub table-lots : (t : List ℕ) (s : Sheet) → readTable t ≡ Got s → every (λ e. lotsOk (e .lots)) (s .events) ≡ true
+unfolding sheetOf partsOk eventsOk
+table-lots t s e =
+    let r = read-is t s e in
+    rw (← r .1) (lots-right (partsIn t .names) _ (partsIn t .events) (fact _ (fact _ (table-facts t (r .0) .1) 2) 0))

@@ -1,13 +1,13 @@
 -- Which bytes are a table: "A table is accepted when ..", condition by condition; and the sheet that a table means. Assumes nothing.
 use Prim.Native.Nat.{ℕ, _+_, _-_, _*_}
-use mathlib.Core.Bool.{Bool, false, cond, _&&_, _||_}
+use mathlib.Core.Bool.{Bool, false, not, cond, _&&_, _||_}
 use mathlib.Core.List.{List, [], _∷_, map}
 use lib.Dec.{leb, ltb, eqb}
 use lib.ListN.{length, getD, take, drop}
 use Rattle.text.specs.Answer.{Answer, Got, _>>=_, must}
 use Rattle.text.specs.Conditions.{allOf, every}
 use Rattle.signal.specs.Signal.{wildcard, scoreLimit}
-use Rattle.sheet.specs.Sheet.{kindOf, Clause, Event, Sheet, eventLimit, clauseLimit, nameLimit, intervalLimit, timeoutLimit, stopLimit, t0Limit, eveningLimit}
+use Rattle.sheet.specs.Sheet.{kindOf, Clause, Event, Sheet, eventLimit, clauseLimit, nameLimit, intervalLimit, timeoutLimit, stopLimit, t0Limit, eveningLimit, lotsOk, exitIn, lotsIn}
 use Rattle.table_words.specs.Words.{clean, wordOk, keyParts, valueParts, distinct, ordered}
 use Rattle.table.specs.Layout.{tableLength, headLength, eventLength, clauseLength, wordLength, layoutNumber, layoutIn, settingsIn, countsIn, placesIn, Parts, partsIn, eventText, wordText}
 use Rattle.table.specs.declared.Settings.{Settings}
@@ -76,9 +76,13 @@ follow at len from to (x ∷ xs) = cond (eqb (at x) from) (follow at len (from +
 
 -- ---- events
 
+-- lots outside 1 to 1,000, "or any but 1 on an X event, give 9": by the number of the event's kind
+abbrev pub kindOk : ℕ → Bool
+kindOk k = lotsOk (lotsIn k) && (not (exitIn k) || eqb (lotsIn k) 1)
+
 -- "name lengths, operates .. are in range"
 unfoldable pub eventOk : List ℕ → EventRow → Bool
-eventOk names e = allOf (leb (e .kind) 1 ∷ leb (e .operate) 6 ∷ leb (e .len) nameLimit ∷ clean (eventText names e) ∷ [])
+eventOk names e = allOf (kindOk (e .kind) ∷ leb (e .operate) 6 ∷ leb (e .len) nameLimit ∷ clean (eventText names e) ∷ [])
 
 -- n clauses; the names follow each other, and so do the events' clauses
 unfoldable pub eventsOk : List ℕ → ℕ → List EventRow → Bool
@@ -167,7 +171,14 @@ clauseOf ks vs c =
 
 -- an event takes its clauses from all of them
 unfoldable pub eventOf : List ℕ → List Clause → EventRow → Event
-eventOf names cs e = record { exit = eqb (e .kind) 1; operate = e .operate; name = eventText names e; clauses = take (e .count) (drop (e .first) cs) }
+eventOf names cs e =
+    record {
+      exit = exitIn (e .kind);
+      operate = e .operate;
+      name = eventText names e;
+      lots = lotsIn (e .kind);
+      clauses = take (e .count) (drop (e .first) cs);
+    }
 
 unfoldable pub sheetOf : Parts → Sheet
 sheetOf p =

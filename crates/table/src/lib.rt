@@ -57,7 +57,8 @@ pub struct Places {
     pub used: u32,
 }
 
-// An event: 0 opening or 1 exit, its operate, where its name stands, and its clauses among all clauses.
+// An event: its kind (0 opening or 1 exit, and twice the lots beyond the first), its operate, where its name stands, and its clauses among all
+// clauses.
 pub struct EventRow {
     pub kind: u16,
     pub operate: u16,

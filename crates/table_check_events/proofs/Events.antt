@@ -1,20 +1,21 @@
 -- A walk over events: what each asks of the next, and the invariant of `events_ok`. Assumes nothing.
-use Prim.Native.Nat.{ℕ, _+_, _*_, _≤_, _<_}
+use Prim.Native.Nat.{ℕ, _+_, _*_, _/_, _%_, _≤_, _<_}
 use native.Mathlib.Omega.{arith}
-use mathlib.Core.Bool.{Bool, true, false, cond, false≢true}
+use mathlib.Core.Bool.{Bool, true, false, cond, _&&_, false≢true}
 use mathlib.Core.List.{List, [], _∷_}
 use mathlib.Core.Logic.{_≢_}
 use mathlib.Core.Path.{_≡_, refl, sym, ap, _∙_}
-use lib.Dec.{leb, eqb}
+use lib.Dec.{leb, ltb, eqb}
 use lib.ListN.{length, getD, drop}
-use borrow.Author.Tests.{eq-eqb, ne-eqb, eqb-true, leb-false}
+use borrow.Author.Tests.{eq-eqb, ne-eqb, eqb-true, eqb-false, le-leb, lt-leb, leb-false, ltb-true, ltb-false}
 use Rattle.text.specs.Conditions.{allOf, every}
 use Rattle.text.proofs.Conditions.{Each, _also_, none-left, sure, fact}
+use Rattle.sheet.specs.Sheet.{lotsOk, lotsIn}
 use Rattle.table_words.specs.Words.{clean}
 use Rattle.table_words.specs.Read.{isCut}
 use Rattle.table_words.proofs.Cut.{part-clean, rest-clean}
 use Rattle.table.specs.Layout.{eventLength, eventIn, eventText}
-use Rattle.table.specs.Table.{follow, eventOk, eventsOk}
+use Rattle.table.specs.Table.{follow, kindOk, eventOk, eventsOk}
 use Rattle.table.specs.Read.{EventAt}
 use Rattle.table.specs.declared.EventRow.{EventRow}
 use Rattle.table.proofs.Spans.{follow-past}
@@ -63,6 +64,26 @@ module _ (names : List ℕ) (n : ℕ) (e : EventRow) (es : List EventRow) where
           sym (broken (cond o sound false ∷ named (f + e .len) ∷ filled (g + e .count) ∷ []) 1 past)
       go true false l o h k q = sym (broken (cond o sound false ∷ named (f + e .len) ∷ false ∷ []) 2 refl)
       go false b l o h k q = sym (broken (cond o sound false ∷ false ∷ cond b (filled (g + e .count)) false ∷ []) 1 refl)
+
+-- ---- `kind_ok`
+
+and-false : (t : Bool) → (t && false) ≡ false
+and-false true = refl
+and-false false = refl
+
+pub exit-kind : (k : ℕ) → k % 2 ≡ 1 → eqb k 1 ≡ kindOk k
+exit-kind k h = rw (eq-eqb (k % 2) 1 h) (go (eqb k 1) refl)
+  where
+    go : (t : Bool) → eqb k 1 ≡ t → eqb k 1 ≡ (lotsOk (lotsIn k) && eqb (lotsIn k) 1)
+    go true p = let e : k ≡ 1 = eqb-true k 1 p in rw e
+    go false p = p ∙ sym (rw (ne-eqb (k / 2 + 1) 1 (omega (arith, h, eqb-false k 1 p))) (and-false (lotsOk (lotsIn k))))
+
+pub opening-kind : (k : ℕ) → k % 2 ≢ 1 → ltb (k / 2) 1_000 ≡ kindOk k
+opening-kind k h = rw (ne-eqb (k % 2) 1 h, le-leb 1 (k / 2 + 1) (omega arith)) (go (ltb (k / 2) 1_000) refl)
+  where
+    go : (t : Bool) → ltb (k / 2) 1_000 ≡ t → ltb (k / 2) 1_000 ≡ (leb (k / 2 + 1) 1_000 && true)
+    go true p = p ∙ sym (rw (le-leb (k / 2 + 1) 1_000 (omega (arith, ltb-true (k / 2) 1_000 p))))
+    go false p = p ∙ sym (rw (lt-leb (k / 2 + 1) 1_000 (omega (arith, ltb-false (k / 2) 1_000 p))))
 
 -- ---- `event_ok`
 

@@ -1,4 +1,5 @@
 // Whether the events of a table are right, row by row.
+use sheet::LOTS_LIMIT;
 use sheet::NAME_LIMIT;
 use table::EventRow;
 use table::event_at;
@@ -9,7 +10,7 @@ ghost use Prim.Native.Nat.{_*_, _≤_};
 ghost use lib.ListN.{length, drop};
 ghost use Rattle.table_words.specs.Words.{clean};
 ghost use Rattle.table.specs.Layout.{eventLength};
-ghost use Rattle.table.specs.Table.{eventOk, eventsOk};
+ghost use Rattle.table.specs.Table.{kindOk, eventOk, eventsOk};
 ghost use Rattle.table_check_events.specs.Check.{eventRows, eventStep};
 
 // Where the next event's name and clauses must start; or this event is wrong.
@@ -18,12 +19,22 @@ enum Step {
     Stop,
 }
 
+// Whether an exit has one lot, and an opening no more than the limit.
+fn kind_ok(kind: u16) -> bool
+    ensures { λ r. ⌜ r ≡ kindOk kind ⌝ }
+{
+    if kind % 2 == 1 {
+        return kind == 1;
+    }
+    ((kind / 2) as u64) < LOTS_LIMIT
+}
+
 // Whether an event is right; names are those of all, clean from its own on, so that its name is clean where it may be cut off.
 fn event_ok(names: &[u8], e: EventRow) -> bool
     requires { ⌜ clean (drop (e .at) (now names)) ≡ true ⌝ }
     ensures { λ r. ⌜ r ≡ eventOk (now (names .entry)) e ⌝ }
 {
-    if 1 < e.kind {
+    if !kind_ok(e.kind) {
         return false;
     }
     if 6 < e.operate {

@@ -5,7 +5,7 @@ use mathlib.Core.List.{List}
 use Rattle.text.specs.Answer.{number}
 use Rattle.table.specs.Compile.{compileDo, Compiled}
 use Rattle.table_compile.specs.declared.Outcome.{Outcome}
-use Rattle.table_compile.specs.declared.Outcome.the-variants.{Done, WrongLength, PastLimit, NotUtf8, Malformed, BadNumber, UnknownOperate, NotSeven, BadScore}
+use Rattle.table_compile.specs.declared.Outcome.the-variants.{Done, WrongLength, PastLimit, NotUtf8, Malformed, BadNumber, UnknownOperate, NotSeven, BadScore, BadLots}
 
 -- the number of each answer
 abbrev pub numberOf : Outcome → ℕ
@@ -18,6 +18,7 @@ numberOf NotSeven = 5
 numberOf BadScore = 6
 numberOf PastLimit = 7
 numberOf WrongLength = 8
+numberOf BadLots = 18
 
 -- s was compiled into a table whose bytes were `before`
 pub record CompiledAs (s before after : List ℕ) (r : Outcome) : Type 0 where

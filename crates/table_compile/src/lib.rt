@@ -26,6 +26,7 @@ pub enum Outcome {
     UnknownOperate,
     NotSeven,
     BadScore,
+    BadLots,
 }
 
 impl Outcome {
@@ -43,6 +44,7 @@ impl Outcome {
             Outcome::BadScore => 6,
             Outcome::PastLimit => 7,
             Outcome::WrongLength => 8,
+            Outcome::BadLots => 18,
         }
     }
 }
@@ -158,5 +160,6 @@ pub fn compile(s: &[u8], table: &mut [u8]) -> Outcome
         SheetRead::UnknownOperate => Outcome::UnknownOperate,
         SheetRead::NotSeven => Outcome::NotSeven,
         SheetRead::BadScore => Outcome::BadScore,
+        SheetRead::BadLots => Outcome::BadLots,
     }
 }

@@ -33,7 +33,7 @@ clauses-append (c ∷ cs) ds = omega (arith, clauses-append cs ds)
 
 -- an event with one clause more
 abbrev with : Clause → Event → Event
-with c e = record { exit = e .exit; operate = e .operate; name = e .name; clauses = e .clauses ++ c ∷ [] }
+with c e = record { exit = e .exit; operate = e .operate; name = e .name; lots = e .lots; clauses = e .clauses ++ c ∷ [] }
 
 with-fine : (c : Clause) (e : Event) → fineClause c ≡ true → fineEvent e ≡ true → fineEvent (with c e) ≡ true
 with-fine c e h k =
@@ -42,6 +42,7 @@ with-fine c e h k =
       operate = f .operate;
       shortName = f .shortName;
       cleanName = f .cleanName;
+      lots = f .lots;
       clauses = every-append fineClause (e .clauses) (c ∷ []) (f .clauses) (every-one fineClause c ∙ h);
     })
 

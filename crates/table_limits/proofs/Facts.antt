@@ -8,7 +8,7 @@ use Rattle.text.specs.Conditions.{every}
 use Rattle.text.proofs.Conditions.{_also_, none-left, sure, fact}
 use Rattle.utf8.specs.Alone.{textLimit}
 use Rattle.signal.specs.Signal.{scoreLimit}
-use Rattle.sheet.specs.Sheet.{Clause, Event, Sheet, clauseCount, eventLimit, clauseLimit, nameLimit, intervalLimit, timeoutLimit, stopLimit, eveningLimit}
+use Rattle.sheet.specs.Sheet.{Clause, Event, Sheet, clauseCount, eventLimit, clauseLimit, nameLimit, intervalLimit, timeoutLimit, stopLimit, eveningLimit, lotsOk}
 use Rattle.table_words.specs.Words.{clean, wordOk, keyParts}
 use Rattle.table_limits.specs.Fine.{valueOk, operateLimit, fineClause, fineEvent, weight, fineSheet}
 
@@ -38,6 +38,7 @@ pub record EventFacts (e : Event) : Type 0 where
   pub operate : e .operate ≤ operateLimit
   pub shortName : length (e .name) ≤ nameLimit
   pub cleanName : clean (e .name) ≡ true
+  pub lots : lotsOk (e .lots) ≡ true
   pub clauses : every fineClause (e .clauses) ≡ true
 
 module _ (e : Event) where
@@ -49,7 +50,8 @@ module _ (e : Event) where
         operate = leb-true (e .operate) operateLimit (is 0);
         shortName = leb-true (length (e .name)) nameLimit (is 1);
         cleanName = is 2;
-        clauses = is 3;
+        lots = is 3;
+        clauses = is 4;
       }
 
   pub event-sure : EventFacts e → fineEvent e ≡ true
@@ -59,6 +61,7 @@ module _ (e : Event) where
       (le-leb (e .operate) operateLimit (f .operate)
       also le-leb (length (e .name)) nameLimit (f .shortName)
       also f .cleanName
+      also f .lots
       also f .clauses
       also none-left)
 

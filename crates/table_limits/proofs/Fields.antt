@@ -20,8 +20,8 @@ use Rattle.operate.specs.Operate.{latin, chinese, codeFrom, operateOf}
 use Rattle.signal.proofs.Keys.{key-length}
 use Rattle.signal.specs.Signal.{Signal, keyOf, scoreLimit, score, signalOf}
 use Rattle.signal.proofs.Says.{score-low}
-use Rattle.sheet.specs.Sheet.{Kind, Clause, nameLimit, eveningLimit}
-use Rattle.sheet.specs.Read.{name, minutesIn}
+use Rattle.sheet.specs.Sheet.{Kind, Clause, nameLimit, eveningLimit, lotsOk}
+use Rattle.sheet.specs.Read.{name, minutesIn, lotsBehind}
 use Rattle.table_words.specs.Words.{clean}
 use Rattle.table_limits.specs.Fine.{valueOk, operateLimit, fineClause, clauseWeight}
 use Rattle.text.proofs.Every.{every-three}
@@ -73,6 +73,10 @@ stop-gives hi s = limit-gives hi (hundredthsIn (split point s))
 pub minutes-give : (fs : List (List ℕ)) → Gives (λ n. n ≤ eveningLimit) (given 3 (minutesIn fs))
 minutes-give [] = gives {x = 0} (omega arith)
 minutes-give (field ∷ _) = limit-gives eveningLimit (digitsTo 10 field)
+
+pub lots-give : (fs : List (List ℕ)) → Gives (λ n. lotsOk n ≡ true) (lotsBehind fs)
+lots-give [] = gives {x = 1} refl
+lots-give (field ∷ _) = then-with (given-some 3 (digitsTo 10 field) tt) (λ n _. then-with (must-test 18 (lotsOk n) tt) (λ _ k. gives k))
 
 -- ---- operates
 

@@ -13,8 +13,8 @@ use Rattle.text.specs.Text.{same, split, pipe}
 use Rattle.text.proofs.Refusals.{Gives, refuses, gives, then-with}
 use Rattle.utf8.specs.Alone.{textLimit}
 use Rattle.signal.specs.Signal.{Signal}
-use Rattle.sheet.specs.Sheet.{Kind, All, Any, Not, Clause, Event, Sheet, clauseCount, eventLimit, clauseLimit, intervalLimit, timeoutLimit, stopLimit, t0Limit, eveningLimit}
-use Rattle.sheet.specs.Read.{name, positionLine, withEvents, anyExit, eventLine, clauseLine, addClause, laterLine}
+use Rattle.sheet.specs.Sheet.{Kind, All, Any, Not, Clause, Event, Sheet, clauseCount, eventLimit, clauseLimit, intervalLimit, timeoutLimit, stopLimit, t0Limit, eveningLimit, lotsOk}
+use Rattle.sheet.specs.Read.{name, positionLine, withEvents, anyExit, eventFields, eventLine, clauseLine, addClause, laterLine}
 use Rattle.table_words.specs.Words.{clean}
 use Rattle.table_limits.specs.Fine.{operateLimit, fineEvent, eventsWeight, clausesWeight, weight}
 use Rattle.text.proofs.Every.{every-one, every-append}
@@ -22,7 +22,7 @@ use Rattle.text.proofs.Joined.{total-next, split-length}
 use Rattle.table_limits.proofs.Lines.{Line, field-at}
 use Rattle.table_limits.proofs.Given.{must-test, either-gives}
 use Rattle.table_limits.proofs.Facts.{event-sure, SheetFacts}
-use Rattle.table_limits.proofs.Fields.{Name, name-gives, unsigned-gives, stop-gives, minutes-give, operate-gives, Says, signal-gives}
+use Rattle.table_limits.proofs.Fields.{Name, name-gives, unsigned-gives, stop-gives, minutes-give, lots-give, operate-gives, Says, signal-gives}
 use Rattle.table_limits.proofs.Events.{count-append, weight-append, add-length, add-count, add-weight, add-fine}
 
 -- a fine sheet that leaves n bytes of a text
@@ -110,13 +110,13 @@ module _ (n : ℕ) (p : List ℕ) (l : Line p) where
 
   -- a later line
   module _ (s : Sheet) (k : Fine (length p + n) s) where
-    event-fine : (exit : Bool) (operate : ℕ) (name : List ℕ) → operate ≤ operateLimit → Name (getD fields 2 []) name
+    event-fine : (exit : Bool) (operate : ℕ) (name : List ℕ) (lots : ℕ) → operate ≤ operateLimit → Name (getD fields 2 []) name → lotsOk lots ≡ true
         → ltb (length (s .events)) eventLimit ≡ true
-        → Fine n (withEvents s (s .events ++ record { exit = exit; operate = operate; name = name; clauses = [] } ∷ []))
+        → Fine n (withEvents s (s .events ++ record { exit = exit; operate = operate; name = name; lots = lots; clauses = [] } ∷ []))
     unfolding eventsWeight clausesWeight clauseCount every
-    event-fine exit operate name o a few =
-        let e : Event = record { exit = exit; operate = operate; name = name; clauses = [] } in
-        let one = event-sure e (record { operate = o; shortName = a .short; cleanName = name-clean 2 a; clauses = refl }) in
+    event-fine exit operate name lots o a b few =
+        let e : Event = record { exit = exit; operate = operate; name = name; lots = lots; clauses = [] } in
+        let one = event-sure e (record { operate = o; shortName = a .short; cleanName = name-clean 2 a; lots = b; clauses = refl }) in
         with-events k n (s .events ++ e ∷ [])
         (omega (arith, length-append (s .events) (e ∷ []), ltb-true (length (s .events)) eventLimit few))
         (omega (arith, count-append (s .events) (e ∷ []), k .facts .clauses))
@@ -126,11 +126,12 @@ module _ (n : ℕ) (p : List ℕ) (l : Line p) where
     event-gives : (exit : Bool) → Gives (Fine n) (eventLine exit s fields)
     unfolding eventLine
     event-gives exit =
-        then-with (must-test 2 (eqb (length fields) 3 && (exit || not (anyExit (s .events)))) tt)
+        then-with (must-test 2 (eventFields exit (length fields) && (exit || not (anyExit (s .events)))) tt)
         (λ _ _. then-with (operate-gives (getD fields 1 []))
         (λ operate o. then-with (name-gives (getD fields 2 []))
-        (λ name a. then-with (must-test 7 (ltb (length (s .events)) eventLimit) tt)
-        (λ _ few. gives (event-fine exit operate name o a few)))))
+        (λ name a. then-with (lots-give (drop 3 fields))
+        (λ lots b. then-with (must-test 7 (ltb (length (s .events)) eventLimit) tt)
+        (λ _ few. gives (event-fine exit operate name lots o a b few))))))
 
     clause-fine : (kind : Kind) (signal : Signal) → Says kind (length (getD fields 1 [])) signal → ltb (clauseCount (s .events)) clauseLimit ≡ true
         → Fine n (withEvents s (addClause (record { kind = kind; signal = signal }) (s .events)))

@@ -7,7 +7,7 @@ use lib.ListN.{length}
 use Rattle.text.specs.Conditions.{allOf, every}
 use Rattle.utf8.specs.Alone.{textLimit}
 use Rattle.signal.specs.Signal.{scoreLimit}
-use Rattle.sheet.specs.Sheet.{Clause, Event, Sheet, clauseCount, eventLimit, clauseLimit, nameLimit, intervalLimit, timeoutLimit, stopLimit, eveningLimit}
+use Rattle.sheet.specs.Sheet.{Clause, Event, Sheet, clauseCount, eventLimit, clauseLimit, nameLimit, intervalLimit, timeoutLimit, stopLimit, eveningLimit, lotsOk}
 use Rattle.table_words.specs.Words.{clean, isWild, wordOk, keyParts, valueParts}
 
 -- ---- clauses and events
@@ -27,7 +27,8 @@ abbrev pub operateLimit : ℕ
 operateLimit = 6
 
 unfoldable pub fineEvent : Event → Bool
-fineEvent e = allOf (leb (e .operate) operateLimit ∷ leb (length (e .name)) nameLimit ∷ clean (e .name) ∷ every fineClause (e .clauses) ∷ [])
+fineEvent e =
+    allOf (leb (e .operate) operateLimit ∷ leb (length (e .name)) nameLimit ∷ clean (e .name) ∷ lotsOk (e .lots) ∷ every fineClause (e .clauses) ∷ [])
 
 -- the clauses of all events, one event after another
 unfoldable pub allClauses : List Event → List Clause

@@ -1,5 +1,5 @@
 -- The first event of a kind that matches, and the first match. Assumes nothing.
-use Prim.Native.Nat.{ℕ, zero, suc, _+_, _<_, _≤_}
+use Prim.Native.Nat.{ℕ, zero, suc, _+_, _%_, _<_, _≤_}
 use native.Mathlib.Omega.{arith}
 use mathlib.Core.Path.{_≡_, _∙_, refl, sym, ap}
 use mathlib.Core.Logic.{_≢_}
@@ -17,7 +17,7 @@ use Rattle.table.specs.Layout.{countsIn, partsIn}
 use Rattle.table.specs.Table.{eventOf, sheetOf}
 use Rattle.table.specs.declared.EventRow.{EventRow}
 use Rattle.table.proofs.Facts.{events-count}
-use Rattle.table_match.specs.Rows.{eventFrom, EventIn}
+use Rattle.table_match.specs.Rows.{eventFrom}
 use Rattle.table_match.specs.First.{ofNumber, matchOf, FirstAs, MatchAs}
 use Rattle.table_match.specs.declared.Match.{Match}
 use Rattle.table_match.specs.declared.Match.the-variants.{Event as Chosen, Nothing}
@@ -25,23 +25,23 @@ use Rattle.table_match.specs.declared.Match.the-variants.{Event as Chose
 -- ---- `is_hit`
 
 -- an event's kind by its number
-kind-is : (t : List ℕ) (e : EventRow) (kind : ℕ) → e .kind ≤ 1 → kind ≤ 1 → ofNumber kind (eventFrom t e) ≡ eqb (e .kind) kind
+kind-is : (t : List ℕ) (e : EventRow) (kind : ℕ) → kind ≤ 1 → ofNumber kind (eventFrom t e) ≡ eqb (e .kind % 2) kind
 unfolding eventOf
-kind-is t e zero h k = go (e .kind) h
+kind-is t e zero k = go (e .kind % 2) (omega arith)
   where
     go : (n : ℕ) → n ≤ 1 → not (eqb n 1) ≡ eqb n 0
     go zero h = refl
     go (suc zero) h = refl
     go (suc (suc n)) h = absurd (omega arith)
-kind-is t e (suc zero) h k = refl
-kind-is t e (suc (suc kind)) h k = absurd (omega arith)
+kind-is t e (suc zero) k = refl
+kind-is t e (suc (suc kind)) k = absurd (omega arith)
 
-module _ (ls : List Line) {t : List ℕ} {e : EventRow} (i : EventIn t e) {kind : ℕ} (k : kind ≤ 1) where
-  pub hit-other : e .kind ≢ kind → false ≡ (ofNumber kind (eventFrom t e) && matches ls (eventFrom t e))
-  hit-other n = rw (kind-is t e kind (i .kind) k, ne-eqb _ _ n)
+module _ (ls : List Line) (t : List ℕ) (e : EventRow) {kind : ℕ} (k : kind ≤ 1) where
+  pub hit-other : e .kind % 2 ≢ kind → false ≡ (ofNumber kind (eventFrom t e) && matches ls (eventFrom t e))
+  hit-other n = rw (kind-is t e kind k, ne-eqb _ _ n)
 
-  pub hit-same : e .kind ≡ kind → {b : Bool} → b ≡ matches ls (eventFrom t e) → b ≡ (ofNumber kind (eventFrom t e) && matches ls (eventFrom t e))
-  hit-same n h = rw (kind-is t e kind (i .kind) k, eq-eqb _ _ n) h
+  pub hit-same : e .kind % 2 ≡ kind → {b : Bool} → b ≡ matches ls (eventFrom t e) → b ≡ (ofNumber kind (eventFrom t e) && matches ls (eventFrom t e))
+  hit-same n h = rw (kind-is t e kind k, eq-eqb _ _ n) h
 
 -- ---- `find_event`
 

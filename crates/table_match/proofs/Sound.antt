@@ -4,7 +4,6 @@ use native.Mathlib.Omega.{arith}
 use mathlib.Core.Path.{_≡_, _∙_, refl, sym, ap, subst}
 use mathlib.Core.Bool.{Bool, true, false, false≢true}
 use mathlib.Core.List.{List, [], _∷_, map}
-use borrow.Author.Tests.{leb-true}
 use lib.ListN.{length, getD, take, drop, length-map}
 use lib.Seq.{drop-cons}
 use Rattle.le.proofs.Laws.{part-lent}
@@ -213,9 +212,7 @@ module _ (t : List ℕ) (ok : isTable t ≡ true) where
   event-checked i h = every-below (eventOk (partsIn t .names)) noEvent (partsIn t .events) events-fine i (omega (arith, events-many t))
 
   event-fine : (i : ℕ) → i < countsIn t .events → EventIn t (getD (partsIn t .events) i noEvent)
-  unfolding eventOk
   event-fine i h = record {
-    kind = leb-true _ _ (fact _ (event-checked i h) 0);
     clauses = follow-within (λ e. e .first) (λ e. e .count) noEvent 0 (countsIn t .clauses) (partsIn t .events) spans-fine i (omega (arith, events-many t));
   }
 

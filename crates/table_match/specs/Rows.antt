@@ -47,5 +47,4 @@ abbrev pub ClauseIn : List ℕ → ClauseRow → Type 0
 ClauseIn t c = clauseOk (countsIn t .keys) (countsIn t .values) c ≡ true
 
 pub record EventIn (t : List ℕ) (e : EventRow) : Type 0 where
-  pub kind : e .kind ≤ 1
   pub clauses : e .first + e .count ≤ countsIn t .clauses

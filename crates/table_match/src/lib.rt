@@ -227,7 +227,7 @@ fn is_hit(
     requires { ⌜ LinesOk (now s) (now starts) (now mids) (now prints) n ⌝ }
     ensures { λ r. ⌜ r ≡ (ofNumber kind (eventFrom (now (t .entry)) e) && matches (linesAt (now (s .entry)) (now (starts .entry)) (now (mids .entry)) n) (eventFrom (now (t .entry)) e)) ⌝ }
 {
-    if e.kind != kind {
+    if e.kind % 2 != kind {
         return false;
     }
     event_matches(t, e, s, starts, mids, prints, n)

@@ -1,11 +1,12 @@
 -- The rows of events: they mean the sheet's events; their names, and their clauses, follow each other. Assumes nothing.
-use Prim.Native.Nat.{ℕ, zero, suc, _+_, _*_, _<_, _≤_}
+use Prim.Native.Nat.{ℕ, zero, suc, _+_, _*_, _/_, _<_, _≤_}
 use native.Mathlib.Omega.{arith}
 use native.Mathlib.Decide.{decLt}
-use mathlib.Core.Bool.{true}
+use mathlib.Core.Bool.{Bool, true, false, not, _||_, and-eq-true-iff}
 use mathlib.Core.List.{List, [], _∷_, _++_, map, append-assoc, append-nil}
 use mathlib.Core.Path.{_≡_, refl, sym, ap, _∙_}
-use borrow.Author.Tests.{le-leb}
+use borrow.Author.Tests.{eq-eqb, le-leb, leb-true}
+use lib.Dec.{leb, eqb}
 use lib.ListN.{length, getD, take, drop, length-take, length-drop, length-append}
 use lib.Seq.{take-add, take-length}
 use Rattle.list.specs.Numbered.{numbered, rows}
@@ -13,13 +14,13 @@ use Rattle.list.proofs.Laws.{numbered-map, numbered-same}
 use Rattle.le.specs.Le.{part}
 use Rattle.le.proofs.Places.{part-mid}
 use Rattle.text.proofs.Conditions.{_also_, none-left, sure}
-use Rattle.sheet.specs.Sheet.{Clause, Event, nameLimit}
+use Rattle.sheet.specs.Sheet.{Clause, Event, nameLimit, lotsLimit, lotsOk, exitIn, lotsIn}
 use Rattle.sheet.specs.Places.{eventNumbers, eventAt, clausesBefore}
 use Rattle.table_words.specs.Words.{clean}
 use Rattle.table_limits.specs.Fine.{allClauses, namesWeight}
 use Rattle.table_limits.proofs.Facts.{EventFacts}
 use Rattle.table.specs.Layout.{eventText}
-use Rattle.table.specs.Table.{follow, eventOk, eventsOk, eventOf}
+use Rattle.table.specs.Table.{follow, kindOk, eventOk, eventsOk, eventOf}
 use Rattle.table_layout.specs.Fits.{EventFits, AllAt}
 use Rattle.table_layout.proofs.Sized.{all-numbered}
 use Rattle.table_parts.specs.Draft.{namesAt, namesLength, eventRow, eventRows}
@@ -31,11 +32,22 @@ numberAt es i j = getD (drop (eventNumbers * i) es) j 0
 
 -- n events of a sheet, with the clauses cs together
 pub record Chain (s es : List ℕ) (cs : List Clause) (n : ℕ) : Type 0 where
-  pub kind : (i : ℕ) → i < n → numberAt es i 0 ≤ 1
+  pub single : (i : ℕ) → i < n → exitIn (numberAt es i 0) ≡ true → lotsIn (numberAt es i 0) ≡ 1
   pub name : (i : ℕ) → i < n → numberAt es i 2 + numberAt es i 3 ≤ length s
   pub clauses : (i : ℕ) → i < n → numberAt es i 4 ≡ clausesBefore es i
   pub all : clausesBefore es n ≡ length cs
   pub fine : (i : ℕ) → i < n → EventFacts (eventAt s cs (drop (eventNumbers * i) es))
+
+-- the number of an event's kind
+kind-fine : (k : ℕ) → lotsOk (lotsIn k) ≡ true → (exitIn k ≡ true → lotsIn k ≡ 1) → kindOk k ≡ true
+kind-fine k h single = rw h (go (exitIn k) refl)
+  where
+    go : (x : Bool) → exitIn k ≡ x → (not x || eqb (lotsIn k) 1) ≡ true
+    go true e = eq-eqb (lotsIn k) 1 (single e)
+    go false e = refl
+
+kind-fits : (k : ℕ) → lotsOk (lotsIn k) ≡ true → k < 65536
+kind-fits k h = omega (arith, leb-true (k / 2 + 1) lotsLimit (and-eq-true-iff (leb 1 (k / 2 + 1)) (leb (k / 2 + 1) lotsLimit) .0 h .1))
 
 length-part : (s : List ℕ) (at len : ℕ) → at + len ≤ length s → length (part s at len) ≡ len
 unfolding part
@@ -116,7 +128,7 @@ module _ {s es : List ℕ} {cs : List Clause} {n : ℕ} (c : Chain s es cs n) wh
     event-fine =
         let f = c .fine i h in
         sure
-        (le-leb (numberAt es i 0) 1 (c .kind i h)
+        (kind-fine (numberAt es i 0) (f .lots) (c .single i h)
         also le-leb (numberAt es i 1) 6 (f .operate)
         also le-leb (numberAt es i 3) nameLimit event-short
         also ap clean name-text ∙ f .cleanName
@@ -128,7 +140,7 @@ module _ {s es : List ℕ} {cs : List Clause} {n : ℕ} (c : Chain s es cs n) wh
         let spans = sum-end (clausesBefore es) (λ i. numberAt es i 5) n (λ i h. refl) i h in
         let names = sum-end (namesLength es) (λ i. numberAt es i 3) n (λ i h. refl) i h in
         record {
-          kind = omega (arith, c .kind i h);
+          kind = kind-fits (numberAt es i 0) (c .fine i h .lots);
           operate = omega (arith, c .fine i h .operate);
           at = omega (arith, names, names-length);
           len = omega (arith, names, names-length);

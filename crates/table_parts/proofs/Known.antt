@@ -39,7 +39,7 @@ module _ {s es cs : List ℕ} {a : SheetAt} (ok : SheetOk s es cs a) where
     chain =
         let fine = sheet-facts (sheetAt s es cs a) f .events in
         record {
-          kind = λ i h. ok .events i h .kind;
+          single = λ i h. ok .events i h .single;
           name = λ i h. ok .events i h .name;
           clauses = λ i h. ok .events i h .clauses;
           all = ok .all ∙ sym clauses-many;

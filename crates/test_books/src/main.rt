@@ -54,7 +54,7 @@ fn lines(
 
 // Reads at most 80,000 bytes. A text has room for 20,000.
 fn main() {
-    let mut space = [0u8; 80000];
+    let mut space = [0u8; 100000];
     let n = io::read_full(STDIN_FILENO, &mut space);
     let mut text = [0u8; 20000];
     let mut table = [0u8; 33000];

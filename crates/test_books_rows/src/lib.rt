@@ -79,6 +79,10 @@ fn pair(s: &[u8], table: &[u8], book: &[u8], row: &mut [u8]) {
     let r = pair_row(table, book, ask::signed(field(s, 1)), row);
     if let PairRead::Row(p) = r {
         shown(p, row);
+        ended(0, row);
+        next();
+        show::number(p.lots as u64);
+        return;
     }
     ended(r.number(), row);
 }

@@ -26,6 +26,8 @@ pub const LAST_INSTANT: i64 = 4_102_444_799_999_999;
 pub const LAST_OFFSET: i64 = 86_399;
 /// The largest evening of a sheet, in minutes.
 pub const LAST_EVENING: i64 = 1_439;
+/// The most lots.
+pub const LOTS_LIMIT: i64 = 1_000;
 /// The last id of a bar.
 pub const LAST_ID: i64 = 2_147_483_647;
 /// The most bytes of a text.
@@ -38,16 +40,29 @@ pub const LINE_LIMIT: usize = 256;
 pub const NAME_LIMIT: usize = 256;
 
 /// A valid season: a sheet, and the bars that are fed, with a save and a restore here and there. Its days open at
-/// midnight, as the Rust's do: one sheet in three says so by a seventh value of 0, the others have none.
+/// midnight, as the Rust's do: one sheet in three says so by a seventh value of 0, the others have none. No opening says
+/// lots, so that all are 1.
 pub fn season(rng: &mut Rng) -> Season {
     let evening = rng.once_in(3).then_some(0);
     with_evening(rng, evening)
 }
 
-/// The same with any evening (document 02, W3), of which the Rust knows nothing.
+/// The same with lots (document 02, W4), which the Rust is not told.
+pub fn lots_season(rng: &mut Rng) -> Season {
+    let season = season(rng);
+    with_lots(rng, season)
+}
+
+/// The same with any evening too (W3), of which the Rust knows nothing.
 pub fn evening_season(rng: &mut Rng) -> Season {
     let evening = sheets::evening(rng);
-    with_evening(rng, evening)
+    let season = with_evening(rng, evening);
+    with_lots(rng, season)
+}
+
+fn with_lots(rng: &mut Rng, mut season: Season) -> Season {
+    sheets::add_lots(rng, &mut season.sheet);
+    season
 }
 
 fn with_evening(rng: &mut Rng, evening: Option<i64>) -> Season {

@@ -17,12 +17,14 @@ pub struct Clause {
     pub parts: [String; 7],
 }
 
-/// An event: an opening or an exit, its operate in one of the two spellings, its name and its clauses in the order of their lines.
+/// An event: an opening or an exit, its operate in one of the two spellings, its name, an opening's lots if it says them, and its clauses
+/// in the order of their lines.
 #[derive(Clone, Debug, PartialEq)]
 pub struct Event {
     pub exit: bool,
     pub operate: String,
     pub name: String,
+    pub lots: Option<i64>,
     pub clauses: Vec<Clause>,
 }
 
@@ -99,10 +101,19 @@ impl Clause {
 }
 
 impl Event {
-    fn text(&self) -> String {
+    /// Its lines, lots with so many digits at least.
+    fn text(&self, width: usize) -> String {
         let tag = if self.exit { 'X' } else { 'O' };
+        let lots = self
+            .lots
+            .map_or(String::new(), |lots| format!("|{lots:0width$}"));
         let clauses: String = self.clauses.iter().map(Clause::line).collect();
-        format!("{tag}|{}|{}\n{clauses}", self.operate, self.name)
+        format!("{tag}|{}|{}{lots}\n{clauses}", self.operate, self.name)
+    }
+
+    /// What it opens a position with: 1 where its line does not say.
+    pub fn opening_lots(&self) -> i64 {
+        self.lots.unwrap_or(1)
     }
 }
 
@@ -114,7 +125,7 @@ impl Sheet {
         let evening = self
             .evening
             .map_or(String::new(), |minutes| format!("|{minutes:0width$}"));
-        let events: String = self.events.iter().map(Event::text).collect();
+        let events: String = self.events.iter().map(|event| event.text(width)).collect();
         format!(
             "P|{}|{}|{:0width$}|{:0width$}|{}|{t0:0width$}{evening}\n{events}",
             self.name,

@@ -1,7 +1,7 @@
 //! Valid sheets.
 
 use crate::season::{Clause, Event, Kind, Sheet};
-use crate::{EVENT_LIMIT, LAST_EVENING, LINE_LIMIT, Rng, TEXT_LIMIT, words};
+use crate::{EVENT_LIMIT, LAST_EVENING, LINE_LIMIT, LOTS_LIMIT, Rng, TEXT_LIMIT, words};
 
 /// Stops whose hundredths over 1,000,000, rounded once, are another double than over 100 and then over 10,000.
 const TWICE_ROUNDED: [i64; 5] = [1_915, 2_498, 3_830, 4_996, 87_955];
@@ -83,6 +83,23 @@ pub fn evening(rng: &mut Rng) -> Option<i64> {
     }
 }
 
+/// Says lots in some openings of a sheet, as long as its text has room for them.
+pub fn add_lots(rng: &mut Rng, sheet: &mut Sheet) {
+    for index in 0..sheet.events.len() {
+        let lots = match rng.below(4) {
+            0 => None,
+            1 => Some(rng.between(1, LOTS_LIMIT)),
+            _ => Some(*rng.pick(&[1, 2, 3, 5, 255, 256, LOTS_LIMIT - 1, LOTS_LIMIT])),
+        };
+        if !sheet.events[index].exit {
+            sheet.events[index].lots = lots;
+            if sheet.text().len() > TEXT_LIMIT {
+                sheet.events[index].lots = None;
+            }
+        }
+    }
+}
+
 /// Some keys, each of three parts.
 fn key_pool(rng: &mut Rng, most: usize) -> Vec<[String; 3]> {
     let count = 1 + rng.below(most);
@@ -97,6 +114,7 @@ fn event(rng: &mut Rng, keys: &[[String; 3]], exit: bool) -> Event {
         exit,
         operate: operate(rng, exit),
         name: words::name(rng),
+        lots: None,
         clauses: (0..clauses).map(|_| clause(rng, keys)).collect(),
     }
 }

@@ -97,7 +97,12 @@ fn simpler_sheet(season: &Season) -> impl Iterator<Item = Season> {
     let events = 0..season.sheet.events.len();
     settings
         .into_iter()
-        .chain(events.map(|index| with(season, |copy| copy.sheet.events[index].name = "e".into())))
+        .chain(
+            events
+                .clone()
+                .map(|index| with(season, |copy| copy.sheet.events[index].name = "e".into())),
+        )
+        .chain(events.map(|index| with(season, |copy| copy.sheet.events[index].lots = None)))
 }
 
 fn simpler_bars(season: &Season) -> impl Iterator<Item = Season> {

@@ -7,6 +7,10 @@ fn seasons(count: u64) -> impl Iterator<Item = Season> {
     (0..count).map(|seed| season(&mut Rng::new(seed)))
 }
 
+fn lots_seasons(count: u64) -> impl Iterator<Item = Season> {
+    (0..count).map(|seed| lots_season(&mut Rng::new(seed)))
+}
+
 fn evening_seasons(count: u64) -> impl Iterator<Item = Season> {
     (0..count).map(|seed| evening_season(&mut Rng::new(seed)))
 }
@@ -14,19 +18,26 @@ fn evening_seasons(count: u64) -> impl Iterator<Item = Season> {
 #[test]
 fn the_same_seed_gives_the_same_season() {
     assert!(seasons(200).eq(seasons(200)));
+    assert!(lots_seasons(200).eq(lots_seasons(200)));
     assert!(evening_seasons(200).eq(evening_seasons(200)));
 }
 
 #[test]
 fn sheets_are_within_the_limits() {
     let mut longest = 0;
-    for Season { sheet, .. } in seasons(5_000).chain(evening_seasons(5_000)) {
+    for Season { sheet, .. } in lots_seasons(5_000).chain(evening_seasons(5_000)) {
         longest = longest.max(sheet.text().len());
         assert!(sheet.events.len() <= EVENT_LIMIT && sheet.clauses().count() <= LINE_LIMIT);
         assert!(sheet.events.is_sorted_by_key(|event| event.exit));
         assert!(sheet.name.len() <= NAME_LIMIT && sheet.symbol.len() <= NAME_LIMIT);
         assert!((0..=100_000_000).contains(&sheet.stop));
         assert!((0..=LAST_EVENING).contains(&sheet.evening_minutes()));
+        assert!(
+            sheet
+                .events
+                .iter()
+                .all(|event| !event.exit || event.lots.is_none())
+        );
     }
     assert_eq!(longest, TEXT_LIMIT);
 }
@@ -73,6 +84,53 @@ fn an_evening_season_says_any_evening() {
     let named = [None, Some(0), Some(1), Some(180), Some(LAST_EVENING)];
     assert!(named.iter().all(|evening| said.contains(evening)));
     assert!(said.len() > 300, "{}", said.len());
+}
+
+/// The third values of a sheet's events.
+fn lots_fields(sheet: &Sheet) -> Vec<String> {
+    let text = sheet.text();
+    let events = text.lines().filter(|line| line.starts_with(['O', 'X']));
+    let fields = events.filter_map(|line| line.split('|').nth(3));
+    fields.map(str::to_string).collect()
+}
+
+#[test]
+fn an_opening_says_any_lots() {
+    assert!(seasons(5_000).all(|season| lots_fields(&season.sheet).is_empty()));
+    let (mut said, mut padded, mut silent) = (HashSet::new(), 0, 0);
+    for Season { sheet, .. } in lots_seasons(5_000).chain(evening_seasons(5_000)) {
+        let fields = lots_fields(&sheet);
+        let lots: Vec<i64> = sheet.events.iter().filter_map(|event| event.lots).collect();
+        let read: Result<Vec<i64>, _> = fields.iter().map(|field| field.parse()).collect();
+        assert_eq!(read.as_ref(), Ok(&lots));
+        padded += fields.iter().filter(|field| field.len() == 10).count();
+        silent += sheet
+            .events
+            .iter()
+            .filter(|event| !event.exit && event.lots.is_none())
+            .count();
+        said.extend(lots);
+    }
+    assert!(said.iter().all(|lots| (1..=LOTS_LIMIT).contains(lots)));
+    assert!(
+        said.len() > 900 && padded > 100 && silent > 1_000,
+        "{} {padded} {silent}",
+        said.len()
+    );
+    assert!([1, 2, 999, 1_000].iter().all(|lots| said.contains(lots)));
+}
+
+/// Without its lots a season is the one that the Rust is given.
+#[test]
+fn lots_change_nothing_else() {
+    for (season, mut with_lots) in seasons(2_000).zip(lots_seasons(2_000)) {
+        with_lots
+            .sheet
+            .events
+            .iter_mut()
+            .for_each(|event| event.lots = None);
+        assert_eq!(season, with_lots);
+    }
 }
 
 /// At both sides of 21:00, where it opens the next trading day.

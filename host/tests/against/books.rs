@@ -3,7 +3,7 @@
 use super::numbers::double;
 use crate::model::book::encode;
 use crate::model::machine::{Bar, Hold, LE, LO, Pos, Record, Reference, SE, SO, State, Time, Why};
-use inputs::{LAST_ID, LAST_INSTANT, LAST_OFFSET, Rng};
+use inputs::{LAST_ID, LAST_INSTANT, LAST_OFFSET, LOTS_LIMIT, Rng};
 
 const DAY: i64 = 86_400_000_000;
 
@@ -12,8 +12,8 @@ const HEADER: [usize; 26] = [
     0, 4, 8, 12, 16, 20, 24, 25, 26, 27, 28, 29, 30, 31, 32, 40, 44, 48, 56, 64, 68, 72, 80, 84,
     88, 96,
 ];
-const HOLD: [usize; 9] = [0, 8, 12, 13, 14, 15, 16, 24, 32];
-const RECORD: [usize; 10] = [0, 8, 12, 16, 24, 25, 26, 27, 28, 32];
+const HOLD: [usize; 8] = [0, 8, 12, 13, 14, 16, 24, 32];
+const RECORD: [usize; 11] = [0, 8, 12, 16, 24, 25, 26, 27, 28, 30, 32];
 /// The starts of fields of eight bytes that are doubles.
 const DOUBLES: [usize; 3] = [16, 24, 88];
 
@@ -95,15 +95,25 @@ fn bar(rng: &mut Rng, instant: i64) -> Bar {
     }
 }
 
-/// A hold, its yield absent or any, now and then a NaN.
+/// Lots of a record or of a hold with a position: none as in older books, up to their limit, now and then above it.
+fn lots(rng: &mut Rng) -> u16 {
+    let any = rng.between(0, LOTS_LIMIT) as u16;
+    let above = if rng.once_in(20) { 1_001 } else { 1_000 };
+    *rng.pick(&[0, 1, 2, 255, 256, any, above])
+}
+
+/// A hold, its yield absent or any, now and then a NaN, and seldom lots where it is Flat.
 fn hold(rng: &mut Rng, instant: i64) -> Hold {
     let bp = f64::from_bits(double(rng));
     let present = rng.once_in(2) && (!bp.is_nan() || rng.once_in(8));
+    let (pos, lots) = (pos(rng), lots(rng));
+    let none = pos == Pos::Flat && !rng.once_in(40);
     Hold {
         time: time(rng, instant),
-        pos: pos(rng),
+        pos,
         price: price(rng),
         bp: present.then_some(bp),
+        lots: if none { 0 } else { lots },
     }
 }
 
@@ -120,6 +130,7 @@ fn record(rng: &mut Rng, instant: i64, events: usize) -> Record {
         operate: *rng.pick(&[LO, LE, SO, SE]),
         pos: pos(rng),
         why: *rng.pick(&[by_event, Why::Stop, Why::Timeout]),
+        lots: lots(rng),
     }
 }
 
@@ -177,6 +188,7 @@ fn change(rng: &mut Rng, field: &mut [u8], is_double: bool) {
         (1, _) => now.wrapping_sub(1),
         (2, _) => rng.bits(),
         (_, 1) => rng.below(8) as u64,
+        (_, 2) => *rng.pick(&[0, 1, 2, 31, 32, 256, 999, 1_000, 1_001, 1_256, 65_535]),
         (_, 4) => *rng.pick(&[0, -1, 1, 86_399, 86_400, -86_399, -86_400, LAST_ID, 1 << 31]) as u64,
         _ if is_double => double(rng),
         _ => *rng.pick(&[0, -1, LAST_INSTANT, LAST_INSTANT + 1, i64::MIN, i64::MAX]) as u64,

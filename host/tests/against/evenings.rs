@@ -2,8 +2,8 @@
 //! the bytes of t0 and evening in a table. `trading_days` has what a bar does by them.
 
 use super::{
-    Arguments, COMPILE, COUNTS, Call, Comparison, EVENT_NAME, FEED, FEED_LINE, FRESH, HOLD_ROW,
-    HOLD_ROWS, PAIR_ROW, PAIR_ROWS, RESTORE, SAVE,
+    Arguments, COMPILE, Comparison, EVENT_NAME, FEED, FRESH, SAVE, every_byte_at_every_place,
+    table_calls,
 };
 use position_book::raw::{NAME_LIMIT, PAIR_ROW_LIMIT, TABLE_LENGTH, book_length};
 
@@ -70,20 +70,6 @@ const NO_EVENING: [&str; 42] = [
     "１８０",
     "180\r",
     "\r",
-];
-
-/// The calls that take a table.
-const CALLS: [&Call; 10] = [
-    &FEED,
-    &FEED_LINE,
-    &SAVE,
-    &RESTORE,
-    &PAIR_ROW,
-    &HOLD_ROW,
-    &PAIR_ROWS,
-    &HOLD_ROWS,
-    &COUNTS,
-    &EVENT_NAME,
 ];
 
 /// Numbers of t0 and evening at their limits in a table, and whether it is one.
@@ -178,18 +164,9 @@ fn every_number_of_minutes_is_read_or_refused() {
 #[test]
 fn every_byte_at_every_place_of_an_evening_is_the_models() {
     let mut comparison = Comparison::default();
-    for field in [&b"180"[..], b"1439", b"0000001439"] {
-        for place in 0..=field.len() {
-            let (before, behind) = field.split_at(place);
-            with_field(&mut comparison, before);
-            with_field(&mut comparison, behind);
-            for byte in 0..=255 {
-                with_field(&mut comparison, &[before, &[byte], behind].concat());
-                let rest = behind.get(1..).unwrap_or(b"");
-                with_field(&mut comparison, &[before, &[byte], rest].concat());
-            }
-        }
-    }
+    every_byte_at_every_place(&[&b"180"[..], b"1439", b"0000001439"], |field| {
+        with_field(&mut comparison, field);
+    });
 }
 
 /// The first line has six values or seven; the count comes before each of them, and so does a missing LF.
@@ -268,7 +245,7 @@ fn all_calls_take_or_refuse_a_table_by_its_halves() {
     for (halves, is_table) in HALVES {
         let mut arguments = book.clone();
         set_halves(&mut arguments.table, halves);
-        for call in CALLS {
+        for call in table_calls() {
             let (number, after) = comparison.run(call, &arguments);
             let expected = if is_table { 0 } else { 9 };
             assert_eq!(number, expected, "{}, {halves:?}", call.name);

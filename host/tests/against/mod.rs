@@ -4,6 +4,8 @@ pub mod books;
 mod boundaries;
 mod evenings;
 pub mod lines;
+mod lots;
+mod lots_kept;
 pub mod numbers;
 pub mod round;
 mod stops;
@@ -100,7 +102,7 @@ words!(CountsAnswer: number, holds, pairs);
 words!(SignalAnswer: number, score, key, v1, v2, v3);
 words!(FeedAnswer: number, pos, changed, decision, event);
 words!(HoldAnswer: number, local, pos, present; price, bp);
-words!(PairAnswer: number, side, opened, closed, ids, present, symbol, mark, sequence; from, to, days, bp);
+words!(PairAnswer: number, side, opened, closed, ids, present, symbol, mark, sequence, lots; from, to, days, bp);
 
 /// A call on both sides, and the numbers that it can answer.
 pub struct Call {
@@ -123,7 +125,7 @@ macro_rules! call {
 
 pub const COMPILE: Call = call!(
     compile,
-    [0, 1, 2, 3, 4, 5, 6, 7, 8],
+    [0, 1, 2, 3, 4, 5, 6, 7, 8, 18],
     a,
     &a.text,
     &mut a.table
@@ -210,6 +212,27 @@ pub const CALLS: [&Call; 15] = [
     &OPERATE,
     &OPERATE_NAME,
 ];
+
+/// Those that take a table.
+pub fn table_calls() -> &'static [&'static Call] {
+    let calls: &[&Call] = &CALLS;
+    &calls[2..12]
+}
+
+/// Runs each field cut off at every place and begun there, and with every byte put in and put for another there.
+pub fn every_byte_at_every_place(fields: &[&[u8]], mut run: impl FnMut(&[u8])) {
+    for field in fields {
+        for place in 0..=field.len() {
+            let (before, behind) = field.split_at(place);
+            run(before);
+            run(behind);
+            for byte in 0..=255 {
+                run(&[before, &[byte], behind].concat());
+                run(&[before, &[byte], behind.get(1..).unwrap_or(b"")].concat());
+            }
+        }
+    }
+}
 
 /// The seed of the round that runs, and how often each call answered each number.
 #[derive(Default)]

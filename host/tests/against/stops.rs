@@ -1,7 +1,7 @@
 //! Stops finer than a basis point at the boundaries of document 02, W2, on both sides: a fixed list of stop fields with
 //! what they say and how they are shown, every byte at every place of one, and losses at a stop and beside it.
 
-use super::{Arguments, COMPILE, Comparison, FEED, FRESH, PAIR_ROW};
+use super::{Arguments, COMPILE, Comparison, FEED, FRESH, PAIR_ROW, every_byte_at_every_place};
 use position_book::raw::{ROW_BUFFER, TABLE_LENGTH, book_length};
 
 /// Stop fields that are read, and of each the hundredths and the text that a sequence shows.
@@ -196,20 +196,12 @@ fn other_stop_fields_are_refused() {
 #[test]
 fn every_byte_at_every_place_of_a_stop_is_the_models() {
     let mut comparison = Comparison::default();
-    for field in [&b"12.50"[..], b"7.2", b"1000000.00", b"0999999999.99"] {
-        for place in 0..=field.len() {
-            let (before, behind) = field.split_at(place);
-            compiled(&mut comparison, before);
-            compiled(&mut comparison, behind);
-            for byte in 0..=255 {
-                compiled(&mut comparison, &[before, &[byte], behind].concat());
-                compiled(
-                    &mut comparison,
-                    &[before, &[byte], behind.get(1..).unwrap_or(b"")].concat(),
-                );
-            }
-        }
-    }
+    every_byte_at_every_place(
+        &[&b"12.50"[..], b"7.2", b"1000000.00", b"0999999999.99"],
+        |field| {
+            compiled(&mut comparison, field);
+        },
+    );
 }
 
 #[test]

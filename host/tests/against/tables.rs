@@ -13,7 +13,7 @@ const LAYOUT: u32 = 0xff00_0002;
 /// A copy of a table, changed in one respect. It may still be a table.
 pub fn fault(rng: &mut Rng, table: &[u8]) -> Vec<u8> {
     let mut copy = table.to_vec();
-    match rng.below(17) {
+    match rng.below(18) {
         0 | 1 => header_fault(rng, &mut copy),
         2 | 3 => row_fault(rng, &mut copy),
         4 => exchange(rng, &mut copy),
@@ -25,6 +25,7 @@ pub fn fault(rng: &mut Rng, table: &[u8]) -> Vec<u8> {
         10 => layout_fault(rng, &mut copy),
         11 => former(&mut copy),
         12 => half_fault(rng, &mut copy),
+        13 => kind_fault(rng, &mut copy),
         _ => meaning_fault(rng, &mut copy),
     }
     copy
@@ -80,6 +81,23 @@ fn half_fault(rng: &mut Rng, table: &mut [u8]) {
     let number = match rng.below(3) {
         0 => now ^ 1 << rng.below(16),
         _ => rng.pick(&limits).wrapping_add(rng.below(2) as u16),
+    };
+    table[at..at + 2].copy_from_slice(&number.to_le_bytes());
+}
+
+/// Another kind of an event: an exit, or an opening, with lots at a limit or beside it, or with a bit changed.
+fn kind_fault(rng: &mut Rng, table: &mut [u8]) {
+    let start = place(table, 0);
+    let events = (place(table, 1) - start) / 12;
+    if events == 0 {
+        return;
+    }
+    let at = start + 12 * rng.below(events);
+    let now = u16::from_le_bytes([table[at], table[at + 1]]);
+    let limits: [u16; 8] = [0, 2, 8, 254, 256, 1_996, 1_998, 65_534];
+    let number = match rng.below(3) {
+        0 => now ^ 1 << rng.below(16),
+        _ => rng.pick(&limits).wrapping_add(rng.below(3) as u16),
     };
     table[at..at + 2].copy_from_slice(&number.to_le_bytes());
 }
@@ -276,16 +294,17 @@ fn setting_fault(rng: &mut Rng, sheet: &mut Sheet) {
     }
 }
 
-/// Events in any order, with any operate, with a name that is none.
+/// Events in any order, with any operate, with lots that they may not have, with a name that is none.
 fn event_fault(rng: &mut Rng, sheet: &mut Sheet) {
     if sheet.events.is_empty() {
         return;
     }
     let place = rng.below(sheet.events.len());
-    match rng.below(4) {
+    match rng.below(5) {
         0 => sheet.events.reverse(),
         1 => sheet.events[place].exit ^= true,
         2 => sheet.events[place].operate = rng.below(9) as u8,
+        3 => sheet.events[place].lots = *rng.pick(&[0, 1, 2, 5, 999, 1_000, 1_001]),
         _ => sheet.events[place].name = name(rng),
     }
 }
@@ -299,6 +318,7 @@ fn crowd(rng: &mut Rng, sheet: &mut Sheet) {
             exit: rng.once_in(2),
             operate: rng.below(7) as u8,
             name: String::new(),
+            lots: *rng.pick(&[1, 1, 1, 1, 1, 1, 1, 1, 2, 1_000]),
             clauses: Vec::new(),
         });
     let clauses = rng.below(2) * (LINE_LIMIT + rng.below(2));

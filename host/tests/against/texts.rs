@@ -105,9 +105,43 @@ const EVENINGS: [&str; 26] = [
     "180|0",
 ];
 
+/// Lots of an O line (document 02, W4): both sides of their range, what 16 or 32 bits would make right again, and each kind that is none; the
+/// last are values too many.
+const LOTS: [&str; 29] = [
+    "1",
+    "2",
+    "5",
+    "0005",
+    "0000000005",
+    "999",
+    "1000",
+    "0000001000",
+    "0",
+    "0000000000",
+    "1001",
+    "0000001001",
+    "65536",
+    "65537",
+    "4294967297",
+    "9999999999",
+    "00000000005",
+    "99999999999",
+    "",
+    "+5",
+    "-1",
+    " 5",
+    "5 ",
+    "1.5",
+    "五",
+    "x",
+    "5\r",
+    "5|",
+    "5|5",
+];
+
 /// A copy of a text with a fault in its bytes, its fields, its lines or its length.
 pub fn fault(rng: &mut Rng, text: &[u8]) -> Vec<u8> {
-    match rng.below(10) {
+    match rng.below(11) {
         0 => (0..rng.below(80)).map(|_| rng.bits() as u8).collect(),
         1 => long(rng, text),
         2 => crowd(rng, text),
@@ -115,6 +149,7 @@ pub fn fault(rng: &mut Rng, text: &[u8]) -> Vec<u8> {
         4 | 5 => field_fault(rng, text),
         6 if text.starts_with(b"P|") => stop_fault(rng, text),
         7 if text.starts_with(b"P|") => evening_fault(rng, text),
+        8 if text.starts_with(b"P|") => lots_fault(rng, text),
         _ => inputs::damage(rng, text),
     }
 }
@@ -133,6 +168,7 @@ fn long(rng: &mut Rng, text: &[u8]) -> Vec<u8> {
 fn crowd(rng: &mut Rng, text: &[u8]) -> Vec<u8> {
     let of_sheet = [
         "O|LO|o\n",
+        "O|LO|o|1000\n",
         "X|SE|x\n",
         "A|a_b_c_d_e_f_0\n",
         "N|a_b_c_d_e_f_0\n",
@@ -200,6 +236,38 @@ fn evening_fault(rng: &mut Rng, text: &[u8]) -> Vec<u8> {
         _ => rng.pick(&EVENINGS).as_bytes().to_vec(),
     };
     [fields.join(&b'|'), rest.to_vec()].concat()
+}
+
+/// A sheet with other lots in the line of one of its events, mostly of an opening, right or wrong; or one that has a byte of them changed, more
+/// or less. Now and then the event's name or operate is wrong too.
+fn lots_fault(rng: &mut Rng, text: &[u8]) -> Vec<u8> {
+    let mut lines = lines(text);
+    let tags: &[u8] = if rng.once_in(8) { b"OX" } else { b"O" };
+    let events: Vec<usize> = (0..lines.len())
+        .filter(|n| tags.contains(&lines[*n][0]))
+        .collect();
+    if events.is_empty() {
+        return [text, b"O|LO|o|", rng.pick(&LOTS).as_bytes(), b"\n"].concat();
+    }
+    let line = &mut lines[*rng.pick(&events)];
+    let mut fields: Vec<Vec<u8>> = line
+        .strip_suffix(b"\n")
+        .unwrap_or(line)
+        .split(|byte| *byte == b'|')
+        .map(<[u8]>::to_vec)
+        .collect();
+    fields.resize(4, b"5".to_vec());
+    fields[3] = match rng.below(4) {
+        0 => inputs::damage(rng, &fields[3]),
+        _ => rng.pick(&LOTS).as_bytes().to_vec(),
+    };
+    match rng.below(12) {
+        0 => fields[1] = b"lo".to_vec(),
+        1 => fields[2] = "n".repeat(NAME_LIMIT + 1).into_bytes(),
+        _ => {}
+    }
+    *line = [fields.join(&b'|'), b"\n".to_vec()].concat();
+    lines.concat()
 }
 
 /// A field replaced by another.

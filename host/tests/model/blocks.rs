@@ -6,7 +6,7 @@ use super::{Answer, number, put, require};
 use position_book::raw::{BlockAnswer, CountsAnswer};
 
 const HOLD_ROW: usize = 32;
-const PAIR_ROW: usize = 88;
+const PAIR_ROW: usize = 96;
 const ROW_BUFFER: usize = 2_048;
 
 /// The bytes of hold row number i.
@@ -39,6 +39,7 @@ fn pair_bytes(table: &[u8], book: &[u8], i: i64) -> Answer<Vec<u8>> {
     bytes.extend(row.bp.to_le_bytes());
     let lengths = [row.symbol, row.mark, row.sequence];
     bytes.extend(lengths.iter().flat_map(|n| (*n as u64).to_le_bytes()));
+    bytes.extend(u64::from(row.lots).to_le_bytes());
     bytes.extend(&texts[..lengths.iter().sum()]);
     Ok(bytes)
 }

@@ -1,12 +1,14 @@
 //! Document 01, "Book": the book's bytes, the header check and the full check, fresh, feed, save and restore.
 
-use super::machine::{
-    Bar, Hold, LE, LO, Pos, Record, Reference, SE, SO, State, Time, Why, bar_of, step,
+use super::entries::{
+    f64_at, flag, i32_at, optional, pos_of, put_hold, put_record, put_time, read_hold, read_record,
+    time_at, why_numbers,
 };
+use super::machine::{Bar, Hold, LO, Record, Reference, SO, State, Why, bar_of, step};
 use super::matching::{first_match, read_signals};
 use super::table::{self, read_table};
 use super::texts::Sheet;
-use super::{Answer, bytes_at, number, put, require, u32_at};
+use super::{Answer, number, put, require, u32_at};
 use position_book::raw::FeedAnswer;
 
 const HEADER: usize = 96;
@@ -41,47 +43,6 @@ fn length(bars: usize) -> usize {
     HEADER + 2 * ENTRY * bars
 }
 
-fn i32_at(bytes: &[u8], at: usize) -> i32 {
-    i32::from_le_bytes(bytes_at(bytes, at))
-}
-
-fn i64_at(bytes: &[u8], at: usize) -> i64 {
-    i64::from_le_bytes(bytes_at(bytes, at))
-}
-
-fn f64_at(bytes: &[u8], at: usize) -> f64 {
-    f64::from_le_bytes(bytes_at(bytes, at))
-}
-
-/// A presence byte, 0 or 1.
-fn flag(byte: u8) -> Option<bool> {
-    (byte <= 1).then_some(byte == 1)
-}
-
-fn pos_of(byte: u8) -> Option<Pos> {
-    [Pos::Short, Pos::Flat, Pos::Long]
-        .get(usize::from(byte))
-        .copied()
-}
-
-/// What is read if it is present, where zero bytes stand if it is absent.
-fn optional<T>(present: bool, bytes: &[u8], value: Option<T>) -> Option<Option<T>> {
-    if present {
-        value.map(Some)
-    } else {
-        bytes.iter().all(|byte| *byte == 0).then_some(None)
-    }
-}
-
-/// A time in range whose instant and offset stand at two places.
-fn time_at(bytes: &[u8], instant: usize, offset: usize) -> Option<Time> {
-    let time = Time {
-        instant: i64_at(bytes, instant),
-        offset: i32_at(bytes, offset),
-    };
-    Some(time).filter(|time| time.in_range())
-}
-
 fn reference_at(header: &[u8]) -> Option<Reference> {
     let bar = Bar {
         id: i32_at(header, 68),
@@ -96,43 +57,7 @@ fn reference_at(header: &[u8]) -> Option<Reference> {
     Some(reference).filter(|r| r.bar.in_range() && [LO, SO].contains(&r.operate))
 }
 
-/// A hold in range.
-fn read_hold(bytes: &[u8]) -> Option<Hold> {
-    let bp = Some(f64_at(bytes, 24)).filter(|bp| !bp.is_nan());
-    let hold = Hold {
-        time: time_at(bytes, 0, 8)?,
-        pos: pos_of(bytes[12])?,
-        price: f64_at(bytes, 16),
-        bp: optional(flag(bytes[13])?, &bytes[24..32], bp)?,
-    };
-    Some(hold).filter(|hold| bytes[14..16] == [0, 0] && hold.price.is_finite())
-}
-
-/// A record in range.
-fn read_record(bytes: &[u8]) -> Option<Record> {
-    let bar = Bar {
-        id: i32_at(bytes, 12),
-        time: time_at(bytes, 0, 8)?,
-        price: f64_at(bytes, 16),
-    };
-    let why = match (bytes[26], u32_at(bytes, 28)) {
-        (1, event) => Why::Event(event),
-        (2, 0) => Why::Stop,
-        (3, 0) => Why::Timeout,
-        _ => return None,
-    };
-    let operate = bytes[24];
-    let pos = pos_of(bytes[25])?;
-    let fine = bar.in_range() && bytes[27] == 0 && [LO, LE, SO, SE].contains(&operate);
-    fine.then_some(Record {
-        bar,
-        operate,
-        pos,
-        why,
-    })
-}
-
-/// The header check: H, R, and the state without its lists, but with the last hold.
+/// The header check: H, R, and the state without its lists, but with the last hold, which has the open lots.
 fn read_header(book: &[u8]) -> Option<(usize, usize, State)> {
     let bars = capacity(book).ok()?;
     let [holds, records, room, holds_at, records_at, length] =
@@ -148,6 +73,7 @@ fn read_header(book: &[u8]) -> Option<(usize, usize, State)> {
     let last = read_hold(&book[hold_place(holds - 1)..][..ENTRY])?;
     let agrees = last.time == state.end && last.pos == state.pos && last.bp.is_none();
     let state = State {
+        lots: last.lots,
         holds: vec![last],
         ..state
     };
@@ -168,6 +94,7 @@ fn read_state(book: &[u8]) -> Option<State> {
     let reference = absent(&[(29, 1), (68, 28)]);
     let state = State {
         pos: pos_of(book[24])?,
+        lots: 0,
         changed: flag(book[25])?,
         end: time_at(book, 32, 40)?,
         long_open: optional(flag(book[26])?, &long, time_at(book, 48, 44))?,
@@ -263,36 +190,6 @@ fn put_reference(header: &mut [u8], reference: Reference) {
     put(&mut header[88..], &reference.bar.price.to_le_bytes());
 }
 
-fn put_time(bytes: &mut [u8], instant: usize, offset: usize, time: Time) {
-    put(&mut bytes[instant..], &time.instant.to_le_bytes());
-    put(&mut bytes[offset..], &time.offset.to_le_bytes());
-}
-
-fn put_hold(bytes: &mut [u8], hold: &Hold) {
-    put_time(bytes, 0, 8, hold.time);
-    bytes[12..16].copy_from_slice(&[hold.pos as u8, hold.bp.is_some().into(), 0, 0]);
-    put(&mut bytes[16..], &hold.price.to_le_bytes());
-    put(&mut bytes[24..], &hold.bp.unwrap_or(0.0).to_le_bytes());
-}
-
-fn put_record(bytes: &mut [u8], record: &Record) {
-    let (why, event) = why_numbers(record.why);
-    put_time(bytes, 0, 8, record.bar.time);
-    put(&mut bytes[12..], &record.bar.id.to_le_bytes());
-    put(&mut bytes[16..], &record.bar.price.to_le_bytes());
-    bytes[24..28].copy_from_slice(&[record.operate, record.pos as u8, why as u8, 0]);
-    put(&mut bytes[28..], &event.to_le_bytes());
-}
-
-/// A description's number and its event, 0 where there is none.
-fn why_numbers(why: Why) -> (u32, u32) {
-    match why {
-        Why::Event(event) => (1, event),
-        Why::Stop => (2, 0),
-        Why::Timeout => (3, 0),
-    }
-}
-
 /// The book of a state with room for so many bars.
 pub fn encode(bars: usize, state: &State) -> Vec<u8> {
     let mut book = header_bytes(bars, state.holds.len(), state.records.len(), state);
@@ -346,7 +243,7 @@ fn fed(table: &[u8], book: &[u8], bar: Answer<Bar>, signals: &[u8]) -> Answer<Fe
     })
 }
 
-/// Writes the header, the last hold's yield, the new hold and the record if there is one.
+/// Writes the header, the last hold with its yield, the new hold and the record if there is one.
 fn write_bar(book: &mut [u8], fed: &Fed) {
     let Fed {
         bars,

@@ -1,5 +1,5 @@
 //! Document 01, "Bars and the plain machine": a bar, the state, and what an accepted bar does, step by step; its day by
-//! document 02, W3.
+//! document 02, W3, lots by W4.
 
 use super::texts::Sheet;
 use super::{Answer, require};
@@ -56,6 +56,8 @@ pub struct Record {
     pub operate: u8,
     pub pos: Pos,
     pub why: Why,
+    /// Those that an opening or a reversal opens, or that a closing closes.
+    pub lots: u16,
 }
 
 #[derive(Clone, Copy, Debug)]
@@ -64,11 +66,15 @@ pub struct Hold {
     pub pos: Pos,
     pub price: f64,
     pub bp: Option<f64>,
+    /// 0 where it is Flat.
+    pub lots: u16,
 }
 
 #[derive(Debug)]
 pub struct State {
     pub pos: Pos,
+    /// The open lots, 0 where it is Flat.
+    pub lots: u16,
     pub changed: bool,
     pub end: Time,
     pub long_open: Option<Time>,
@@ -105,6 +111,7 @@ impl State {
     pub fn fresh() -> State {
         State {
             pos: Pos::Flat,
+            lots: 0,
             changed: false,
             end: Time {
                 instant: 0,
@@ -178,9 +185,10 @@ fn open(sheet: &Sheet, state: &mut State, bar: Bar, operate: u8, event: u32) {
             LO => state.long_open = Some(bar.time),
             _ => state.short_open = Some(bar.time),
         }
-        record(state, bar, operate, side, Why::Event(event));
+        let lots = sheet.events[event as usize].lots;
+        record(state, bar, operate, (side, lots), Why::Event(event));
     } else if state.pos == other && may_close(sheet, state, bar) {
-        record(state, bar, closing, Pos::Flat, Why::Event(event));
+        record(state, bar, closing, FLAT, Why::Event(event));
     }
 }
 
@@ -219,11 +227,15 @@ fn close(sheet: &Sheet, state: &mut State, bar: Bar, by_event: Option<u32>, clos
     } else {
         return;
     };
-    record(state, bar, closing, Pos::Flat, why);
+    record(state, bar, closing, FLAT, why);
 }
 
-/// Takes a position and records it.
-fn record(state: &mut State, bar: Bar, operate: u8, pos: Pos, why: Why) {
+/// No position, and no lots.
+const FLAT: (Pos, u16) = (Pos::Flat, 0);
+
+/// Takes a position with its lots and records it, by its lots or, where it is none, by those that were open.
+fn record(state: &mut State, bar: Bar, operate: u8, (pos, lots): (Pos, u16), why: Why) {
+    let closed = std::mem::replace(&mut state.lots, lots);
     state.pos = pos;
     state.changed = true;
     state.records.push(Record {
@@ -231,6 +243,7 @@ fn record(state: &mut State, bar: Bar, operate: u8, pos: Pos, why: Why) {
         operate,
         pos,
         why,
+        lots: if pos == Pos::Flat { closed } else { lots },
     });
 }
 
@@ -244,5 +257,6 @@ fn add_hold(state: &mut State, bar: Bar) {
         pos: state.pos,
         price: bar.price,
         bp: None,
+        lots: state.lots,
     });
 }

@@ -1,9 +1,10 @@
-//! A model of document 01 in plain Rust, written from its text: one file for each of its headings, one for what goes
+//! A model of document 01 in plain Rust, written from its text: a file or two for each of its headings, one for what goes
 //! beyond it and one for the comma lines of document 02, every call with the arguments, the answer and the lent bytes
 //! of the exported one. It knows nothing of the library but the shapes of the answers.
 
 pub mod blocks;
 pub mod book;
+pub mod entries;
 pub mod line;
 pub mod machine;
 pub mod matching;

@@ -107,6 +107,7 @@ fn found_pair(sheet: &Sheet, open: &Record, close: &Record, buffer: &mut [u8]) -
         symbol: sheet.symbol.len(),
         mark: sheet.name.len(),
         sequence: sequence.len(),
+        lots: open.lots.into(),
     }
 }
 
@@ -125,6 +126,7 @@ fn refused_pair(number: u32) -> PairAnswer {
         symbol: 0,
         mark: 0,
         sequence: 0,
+        lots: 0,
     }
 }
 

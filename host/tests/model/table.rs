@@ -1,8 +1,8 @@
 //! Document 01, "Table", with the bytes of docs/TABLE.md: a sheet as a table, which bytes are a table and which sheet they mean.
 
 use super::texts::{
-    Clause, EVENING_LIMIT, Event, INTERVAL_LIMIT, Kind, NAME_LIMIT, SCORE_LIMIT, STOP_LIMIT, Sheet,
-    Signal, TIMEOUT_LIMIT, WILDCARD, read_sheet,
+    Clause, EVENING_LIMIT, Event, INTERVAL_LIMIT, Kind, LOTS_LIMIT, NAME_LIMIT, SCORE_LIMIT,
+    STOP_LIMIT, Sheet, Signal, TIMEOUT_LIMIT, WILDCARD, read_sheet,
 };
 use super::{Answer, bytes_at, number, put, require, u32_at};
 use std::ops::Range;
@@ -114,13 +114,25 @@ fn header(sheet: &Sheet, counts: [usize; 4], lengths: &[usize]) -> Vec<u8> {
         .collect()
 }
 
+/// An event's kind: 1 of an exit in the lowest bit, the lots beyond 1 in those above it.
+fn kind_number(event: &Event) -> u16 {
+    (event.lots.wrapping_sub(1) << 1) + u16::from(event.exit)
+}
+
+/// Whether an event of a kind is an exit, and its lots; an exit has 1.
+fn read_kind(kind: u16) -> Option<(bool, u16)> {
+    let (exit, lots) = (kind % 2 == 1, kind / 2 + 1);
+    let most = if exit { 1 } else { LOTS_LIMIT };
+    (lots <= most).then_some((exit, lots))
+}
+
 fn event_rows(sheet: &Sheet) -> Vec<u16> {
     let mut rows = Vec::new();
     let (mut name, mut clause) = (0, 0);
     for event in &sheet.events {
         let lengths = [event.name.len() as u16, event.clauses.len() as u16];
         rows.extend([
-            event.exit.into(),
+            kind_number(event),
             event.operate.into(),
             name,
             lengths[0],
@@ -342,12 +354,14 @@ fn read_events(table: &[u8], header: &Header, clauses: Vec<Clause>) -> Option<Ve
     let mut clauses = clauses.into_iter();
     let mut events = Vec::new();
     for ([kind, operate, _, _, first, count], name) in rows.into_iter().zip(names) {
-        let fine = kind <= 1 && operate <= 6 && name.len() <= NAME_LIMIT && first == used;
+        let fine = operate <= 6 && name.len() <= NAME_LIMIT && first == used;
         let own: Vec<Clause> = clauses.by_ref().take(count.into()).collect();
+        let (exit, lots) = read_kind(kind)?;
         let event = Event {
-            exit: kind == 1,
+            exit,
             operate: operate as u8,
             name,
+            lots,
             clauses: own,
         };
         events.push(Some(event).filter(|event| fine && event.clauses.len() == count.into())?);

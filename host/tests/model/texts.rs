@@ -1,5 +1,5 @@
 //! Document 01, "Texts": lines and fields, signals, operates, the position sheet; its stop by document 02, W2, its
-//! evening by W3.
+//! evening by W3, its lots by W4.
 
 use super::{Answer, number, put, require};
 use position_book::raw::{NameAnswer, OperateAnswer, SignalAnswer};
@@ -14,6 +14,7 @@ pub const TIMEOUT_LIMIT: u32 = 2_147_483_647;
 pub const STOP_LIMIT: u32 = 100_000_000;
 /// In minutes.
 pub const EVENING_LIMIT: u16 = 1_439;
+pub const LOTS_LIMIT: u16 = 1_000;
 pub const SCORE_LIMIT: i32 = 100;
 pub const WILDCARD: &str = "任意";
 
@@ -47,6 +48,8 @@ pub struct Event {
     pub exit: bool,
     pub operate: u8,
     pub name: String,
+    /// What it opens a position with: 1 of an exit.
+    pub lots: u16,
     pub clauses: Vec<Clause>,
 }
 
@@ -102,11 +105,16 @@ pub fn fields(line: &str) -> Answer<Vec<&str>> {
     Ok(line.split('|').collect())
 }
 
-/// An unsigned field, 1 to 10 digits, up to a limit (3).
-fn unsigned(field: &str, limit: u32) -> Answer<u32> {
+/// An unsigned field, 1 to 10 digits (3).
+fn whole(field: &str) -> Answer<u64> {
     let digits = field.bytes().all(|byte| byte.is_ascii_digit());
     require(digits && (1..=10).contains(&field.len()), 3)?;
-    let value: u64 = field.parse().unwrap();
+    Ok(field.parse().unwrap())
+}
+
+/// An unsigned field up to a limit (3).
+fn unsigned(field: &str, limit: u32) -> Answer<u32> {
+    let value = whole(field)?;
     require(value <= u64::from(limit), 3)?;
     Ok(value as u32)
 }
@@ -128,6 +136,13 @@ fn read_stop(field: &str) -> Answer<u32> {
 fn read_evening(field: Option<&str>) -> Answer<u16> {
     let minutes = field.map_or(Ok(0), |field| unsigned(field, EVENING_LIMIT.into()));
     minutes.map(|minutes| minutes as u16)
+}
+
+/// Lots, an unsigned field (3) in their range (18); 1 without it.
+fn read_lots(field: Option<&str>) -> Answer<u16> {
+    let lots = field.map_or(Ok(1), whole)?;
+    require((1..=u64::from(LOTS_LIMIT)).contains(&lots), 18)?;
+    Ok(lots as u16)
 }
 
 /// A name or symbol within its limit (7).
@@ -197,8 +212,9 @@ fn first_line(line: &str) -> Answer<Sheet> {
 
 fn later_line(sheet: &mut Sheet, line: &str) -> Answer<()> {
     match fields(line)?[..] {
-        ["O", operate, name] => add_event(sheet, false, operate, name),
-        ["X", operate, name] => add_event(sheet, true, operate, name),
+        ["O", operate, name] => add_event(sheet, false, operate, name, None),
+        ["O", operate, name, lots] => add_event(sheet, false, operate, name, Some(lots)),
+        ["X", operate, name] => add_event(sheet, true, operate, name, None),
         ["A", signal] => add_clause(sheet, Kind::All, signal),
         ["Y", signal] => add_clause(sheet, Kind::Any, signal),
         ["N", signal] => add_clause(sheet, Kind::Not, signal),
@@ -206,12 +222,19 @@ fn later_line(sheet: &mut Sheet, line: &str) -> Answer<()> {
     }
 }
 
-fn add_event(sheet: &mut Sheet, exit: bool, operate: &str, name: &str) -> Answer<()> {
+fn add_event(
+    sheet: &mut Sheet,
+    exit: bool,
+    operate: &str,
+    name: &str,
+    lots: Option<&str>,
+) -> Answer<()> {
     require(exit || sheet.events.iter().all(|event| !event.exit), 2)?;
     let event = Event {
         exit,
         operate: read_operate(operate)?,
         name: name_field(name)?,
+        lots: read_lots(lots)?,
         clauses: Vec::new(),
     };
     sheet.events.push(event);

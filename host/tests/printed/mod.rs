@@ -1,7 +1,10 @@
 //! What the run program prints of its input, through the safe API: shared by the tests of the seasons and of tables that
 //! were stored.
 
-use position_book::{Bar, Book, Hold, Instant, Pair, Pos, Refusal, Side, Table};
+mod rows;
+
+use position_book::{Bar, Book, Instant, Refusal, Table};
+use rows::{listed, sign};
 use std::fmt::Write;
 use std::fs;
 use std::path::Path;
@@ -40,39 +43,6 @@ pub fn bars(lines: &str) -> Vec<(Bar, String)> {
     out
 }
 
-fn sign(pos: Pos) -> i32 {
-    pos as i32 - 1
-}
-
-fn yielded(bp: Option<f64>) -> String {
-    bp.map_or("-".to_string(), |x| format!("{:016x}", x.to_bits()))
-}
-
-fn pair_line(p: &Pair) -> String {
-    let side = if p.side == Side::Long { 'L' } else { 'S' };
-    let (from, to, days) = (p.from.to_bits(), p.to.to_bits(), p.days.to_bits());
-    format!(
-        "R|{}|{}|{side}|{}|{}|{from:016x}|{to:016x}|{}|{}|{days:016x}|{}\n",
-        p.symbol,
-        p.mark,
-        p.opened.micros(),
-        p.closed.micros(),
-        p.ids,
-        p.sequence,
-        yielded(p.bp)
-    )
-}
-
-fn hold_line(h: &Hold) -> String {
-    format!(
-        "H|{}|{}|{:016x}|{}\n",
-        h.local.micros(),
-        sign(h.pos),
-        h.price.to_bits(),
-        yielded(h.bp)
-    )
-}
-
 /// What is printed of bars by a table: each bar's answer, then pairs and holds. After every bar the book is saved, and
 /// restored into another.
 pub fn printed(table: &Table, lines: &str) -> Result<String, Refusal> {
@@ -93,7 +63,5 @@ pub fn printed(table: &Table, lines: &str) -> Result<String, Refusal> {
         writeln!(out, "F|{number}|{}|{changed}", sign(book.pos())).unwrap();
         book = Book::from_image(table, &book.save(table)?)?;
     }
-    out.extend(book.pairs(table)?.map(|p| pair_line(&p)));
-    out.extend(book.holds(table)?.map(|h| hold_line(&h)));
-    Ok(out)
+    Ok(out + &listed(table, &book)?)
 }

@@ -7,18 +7,31 @@ use Rattle.book_entry.proofs.hold_at.Tie as tie
 returns : tie.Need-returns
 unfolding holdOf
 returns c =
-    let p = c .before .before .before .before in
-    rw (p .before .before .time-at .ensures, p .pos-at .ensures, c .before .before .before .double-at .ensures, c .yield-at .ensures, c .before .double-at2 .ensures)
+    let y = c .before .before .before in
+    let d = y .before .before .before in
+    rw (
+      c .held-lots .ensures,
+      c .before .read-lots .ensures,
+      c .before .before .get-u16 .ensures,
+      y .yield-at .ensures,
+      y .before .double-at2 .ensures,
+      d .double-at .ensures,
+      d .before .time-at .ensures,
+      d .before .before .pos-at .ensures,
+    )
 
 pub hold-at-spec : {M : Type 1} → statement M
 hold-at-spec =
     tie.close
     (tie.spec
+    (λ c. search needs)
+    (λ c κs. search needs)
+    (λ c κs. search needs)
     (λ c κs. search needs)
     (λ c. search needs)
     (λ c κs. search needs)
     (λ c κs. search needs)
-    (λ c. search needs)
+    (λ c κs. search needs)
     (λ c κs. search needs)
     (λ c κs. search needs)
     returns)

@@ -21,7 +21,7 @@ returns-3 c = broken _ 2 (no (c .before .stored-yield-ok .ensures) (c .if3 .take
 
 returns-4 : tie.Need-returns-4
 unfolding holdOk
-returns-4 c = broken _ 3 (no (c .before .zeros .ensures) (c .if4 .taken))
+returns-4 c = broken _ 3 (no (c .before .held-lots-ok .ensures) (c .if4 .taken))
 
 returns-5 : tie.Need-returns-5
 unfolding holdOk
@@ -33,7 +33,7 @@ returns-5 c =
     (yes (t .before .is-timed .ensures) (t .if1 .left)
     also le-leb _ _ (p .if2 .left)
     also yes (y .before .stored-yield-ok .ensures) (y .if3 .left)
-    also yes (c .before .before .zeros .ensures) (c .before .if4 .left)
+    also yes (c .before .before .held-lots-ok .ensures) (c .before .if4 .left)
     also none-left)
     (c .is-priced .ensures)
 

@@ -1,8 +1,11 @@
 -- `book_entry_check::record_ok` meets its contract. Assumes nothing.
-use mathlib.Core.Path.{refl, _∙_}
+use Prim.Native.Nat.{ℕ}
+use mathlib.Core.Path.{ap, _∙_}
+use lib.Dec.{leb}
 use borrow.Author.Needs.{needs}
-use borrow.Author.Tests.{le-leb, lt-leb}
+use borrow.Author.Tests.{le-leb, lt-leb, eq-eqb, ne-eqb}
 use Rattle.text.proofs.Conditions.{_also_, none-left}
+use Rattle.sheet.specs.Sheet.{lotsLimit}
 use Rattle.book.specs.Check.{recordOk}
 use Rattle.text.proofs.Tested.{no, yes, above, within, broken, decided}
 use Rattle.book_entry_check.proofs.record_ok.Statement.{statement}
@@ -32,12 +35,16 @@ returns-6 : tie.Need-returns-6
 unfolding recordOk
 returns-6 c =
     let d = c .before in
-    broken _ 5 (no (d .description-ok .ensures ∙ rw (d .before .get-u322 .ensures)) (c .if6 .taken))
+    broken _ 5 (no (d .description-ok .ensures ∙ rw (d .before .get-u16 .ensures)) (c .if6 .taken))
 
 returns-7 : tie.Need-returns-7
 unfolding recordOk
-returns-7 c =
-    let d = c .before .before in
+returns-7 c = broken _ 6 (ne-eqb _ _ (c .if7 .taken))
+
+returns-8 : tie.Need-returns-8
+unfolding recordOk
+returns-8 c =
+    let d = c .before .before .before .before in
     let p = d .before .before .before in
     let o = p .before .before in
     let f = o .before .before .before in
@@ -49,9 +56,10 @@ returns-7 c =
     also yes (f .before .is-priced .ensures) (f .if3 .left)
     also yes (o .before .trades .ensures) (o .if4 .left)
     also le-leb _ _ (p .if5 .left)
-    also yes (d .description-ok .ensures ∙ rw (d .before .get-u322 .ensures)) (c .before .if6 .left)
+    also yes (d .description-ok .ensures ∙ rw (d .before .get-u16 .ensures)) (c .before .before .before .if6 .left)
+    also eq-eqb _ _ (c .before .if7 .left)
     also none-left)
-    refl
+    (ap (λ (n : ℕ). leb n lotsLimit) (c .get-u162 .ensures))
 
 pub record-ok-spec : {M : Type 1} → statement M
 record-ok-spec =
@@ -73,4 +81,6 @@ record-ok-spec =
     (λ c κs. search needs)
     returns-6
     (λ c. search needs)
-    returns-7)
+    returns-7
+    (λ c κs. search needs)
+    returns-8)

@@ -52,8 +52,8 @@ cast-t13 c =
 
 returns-2 : tie.Need-returns-2
 returns-2 c =
-    let w = c .before .before .before .before .before in
-    choice-is (accepted w) (lent _ _ _) (inside (w .before)) (c .before .event-at .ensures) (w .before .before .m .given .1)
+    let w = c .before .before .before .before .before .before in
+    choice-is (accepted w) (lent _ _ _) (inside (w .before)) (c .before .before .event-at .ensures) (w .before .before .m .given .1)
 
 pub choose-spec : {M : Type 1} → statement M
 choose-spec =
@@ -71,4 +71,5 @@ choose-spec =
     event-at-requires
     cast-t12
     cast-t13
+    (λ c. search needs)
     returns-2)

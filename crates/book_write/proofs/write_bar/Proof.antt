@@ -1,6 +1,7 @@
 -- The writes one after another, each within the book. Assumes nothing.
 use native.Mathlib.Omega.{arith}
 use borrow.Author.Needs.{needs}
+use Rattle.position_machine.specs.Update.{goingOf}
 use Rattle.book_write.proofs.Written.{counts, new-numbers, wrote-few, written}
 use Rattle.book_write.proofs.write_bar.Statement.{statement}
 use Rattle.book_write.proofs.write_bar.Tie as tie
@@ -9,7 +10,7 @@ put-hold-requires : tie.Need-put-hold-requires
 put-hold-requires c κs =
     let s = c .before .before .before .before .before .before .before .before .before .before .before .before in (
       omega (arith, s .pre .0 .size .long, s .pre .1 .0, c .before .before .before .before .before .before .before .before .before .get-u32 .ensures, c .before .before .before .before .settle-last .kept .0),
-      new-numbers (s .pre .1 .1 .0) (s .args .u .head) (c .new-hold .ensures),
+      new-numbers (s .pre .1 .1 .0) (goingOf (s .args .u)) (c .new-hold .ensures),
     )
 
 put-wrote-requires : tie.Need-put-wrote-requires

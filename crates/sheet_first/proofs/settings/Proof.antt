@@ -9,7 +9,8 @@ use Rattle.text_number.specs.Read.{numberOf}
 use Rattle.stop.specs.Stop.{stopIn}
 use Rattle.sheet.specs.Sheet.{intervalLimit, timeoutLimit, stopLimit, t0Limit}
 use Rattle.text.proofs.Cut.{cut-rest}
-use Rattle.sheet_first.proofs.FirstLine.{Field, field, LastTwo, last-two, fieldOf, names-rest, bad-interval, bad-timeout, bad-stop, bad-t0, bad-evening, settings-are}
+use Rattle.sheet.proofs.Fields.{Field, field, LastTwo, last-two}
+use Rattle.sheet_first.proofs.FirstLine.{fieldOf, names-rest, bad-interval, bad-timeout, bad-stop, bad-t0, bad-evening, settings-are}
 use Rattle.sheet_first.proofs.settings.Statement.{statement}
 use Rattle.sheet_first.proofs.settings.Tie as tie
 

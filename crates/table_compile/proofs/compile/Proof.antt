@@ -1,7 +1,7 @@
 -- `table_compile::compile` meets its contract: the sheet is read, then the table is written. Assumes nothing.
 use mathlib.Core.Path.{refl}
 use borrow.Author.Needs.{needs}
-use Rattle.table_compile.specs.declared.Outcome.the-variants.{PastLimit, NotUtf8, Malformed, BadNumber, UnknownOperate, NotSeven, BadScore}
+use Rattle.table_compile.specs.declared.Outcome.the-variants.{PastLimit, NotUtf8, Malformed, BadNumber, UnknownOperate, NotSeven, BadScore, BadLots}
 use Rattle.table_compile.proofs.Compiled.{told, wrong-length, refused, done}
 use Rattle.table_compile.proofs.Steps.{sheet-done}
 use Rattle.table_compile.proofs.compile.Statement.{statement}
@@ -74,6 +74,10 @@ enum-told-6 c = search needs
 enum-told-7 : tie.Need-enum-told-7
 enum-told-7 c = search needs
 
+-- src/lib.rt:94:31
+enum-told-8 : tie.Need-enum-told-8
+enum-told-8 c = search needs
+
 -- src/lib.rt:74:1
 same-length : tie.Need-same-length
 same-length c = search needs
@@ -126,6 +130,12 @@ returns-9 c =
     let w = c .before .before .before .before in
     refused BadScore refl (w .before .before .before .if1 .left) (told (w .read-sheet .ensures) (c .enum-told7 .given .1) .is)
 
+-- src/lib.rt:74:1
+returns-10 : tie.Need-returns-10
+returns-10 c =
+    let w = c .before .before .before .before in
+    refused BadLots refl (w .before .before .before .if1 .left) (told (w .read-sheet .ensures) (c .enum-told8 .given .1) .is)
+
 pub compile-spec : {M : Type 1} → statement M
 compile-spec =
     tie.close
@@ -145,6 +155,7 @@ compile-spec =
     enum-told-5
     enum-told-6
     enum-told-7
+    enum-told-8
     same-length
     returns-2
     returns-3
@@ -153,4 +164,5 @@ compile-spec =
     returns-6
     returns-7
     returns-8
-    returns-9)
+    returns-9
+    returns-10)

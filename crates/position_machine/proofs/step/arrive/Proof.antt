@@ -7,7 +7,7 @@ use Rattle.position_machine.proofs.step.arrive.Tie as tie
 
 returns : tie.Need-returns
 unfolding arrive
-returns c = rw (c .last-event .ensures) refl
+returns c = λ lots. rw (c .last-event .ensures) refl
 
 pub arrive-spec : {M : Type 1} → statement M
 arrive-spec = tie.close (tie.spec (λ c κs. search needs) returns)

@@ -15,14 +15,14 @@ use Rattle.position_machine.proofs.step.close.Tie as tie
 returns : tie.Need-returns
 returns c =
     let a = c .before .before .args in
-    stays (ofSettings (a .k)) (a .bar) (a .c) (a .side) (a .h) (sym (c .before .can-close .ensures) ∙ not-true _ (c .if1 .taken))
+    stays (ofSettings (a .k)) (a .bar) (a .c) (a .side) (a .lots) (a .h) (sym (c .before .can-close .ensures) ∙ not-true _ (c .if1 .taken))
 
 returns-2 : tie.Need-returns-2
 returns-2 c =
     let e = c .before .before in
     let t = e .before .before in
     let a = t .before .args in
-    leaves (ofSettings (a .k)) (a .bar) (a .c) (a .side) (a .h) Nothing (sym (t .can-close .ensures) ∙ not-false _ (e .before .if1 .left))
+    leaves (ofSettings (a .k)) (a .bar) (a .c) (a .side) (a .lots) (a .h) Nothing (sym (t .can-close .ensures) ∙ not-false _ (e .before .if1 .left))
     (sym (e .exit-desc .ensures) ∙ c .enum-told .given .1)
 
 returns-3 : tie.Need-returns-3
@@ -31,9 +31,9 @@ returns-3 c =
     let e = d .before .before in
     let t = e .before .before in
     let a = t .before .args in
-    c .create-operate-record .ensures
-    ∙ ap (λ (n : ℕ). write (a .bar) n Flat (d .exit .given .0 .0) (silent (a .h))) (c .before .close-operate .ensures)
-    ∙ leaves (ofSettings (a .k)) (a .bar) (a .c) (a .side) (a .h) (By (d .exit .given .0 .0)) (sym (t .can-close .ensures) ∙ not-false _ (e .before .if1 .left))
+    c .create-operate-record .ensures (a .lots)
+    ∙ ap (λ (n : ℕ). write (a .bar) n Flat (d .exit .given .0 .0) (a .lots) (silent (a .h) (a .lots))) (c .before .close-operate .ensures)
+    ∙ leaves (ofSettings (a .k)) (a .bar) (a .c) (a .side) (a .lots) (a .h) (By (d .exit .given .0 .0)) (sym (t .can-close .ensures) ∙ not-false _ (e .before .if1 .left))
     (sym (e .exit-desc .ensures) ∙ d .exit .given .1)
 
 pub close-spec : {M : Type 1} → statement M

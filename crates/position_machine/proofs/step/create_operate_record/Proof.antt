@@ -6,7 +6,7 @@ use Rattle.position_machine.proofs.step.create_operate_record.Tie as ti
 
 returns : tie.Need-returns
 unfolding write
-returns c = refl
+returns c = λ before. refl
 
 pub create-operate-record-spec : {M : Type 1} → statement M
 create-operate-record-spec = tie.close (tie.spec returns)

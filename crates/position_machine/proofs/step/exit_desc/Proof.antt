@@ -1,5 +1,5 @@
 -- `position_machine::step::exit_desc` meets its contract. Assumes nothing.
-use mathlib.Core.Path.{sym, _∙_}
+use mathlib.Core.Path.{refl, sym, _∙_}
 use borrow.Author.Needs.{needs}
 use Rattle.position_machine.specs.Update.{ofSettings}
 use Rattle.position_machine.proofs.Tests.{by-event, by-stop, by-timeout, by-nothing}
@@ -31,6 +31,9 @@ returns-3 c =
     by-timeout (ofSettings (a .k)) (a .bar) (a .c) (a .side) (l .last .given .1) (o .close-operate .ensures) (t .if1 .left) (sym (u .before .is-stopped .ensures) ∙ u .if2 .left)
     (sym (c .before .is-timed-out .ensures) ∙ c .if3 .taken)
 
+returns-4 : tie.Need-returns-4
+returns-4 c = rw (c .enum-told .given .1) refl
+
 returns-5 : tie.Need-returns-5
 returns-5 c =
     let u = c .before .before in
@@ -42,4 +45,4 @@ returns-5 c =
     (sym (c .before .is-timed-out .ensures) ∙ c .if3 .left)
 
 pub exit-desc-spec : {M : Type 1} → statement M
-exit-desc-spec = tie.close (tie.spec (λ c. search needs) (λ c. search needs) (λ c κs. search needs) returns (λ c κs. search needs) returns-2 (λ c κs. search needs) returns-3 (λ c. search needs) returns-5)
+exit-desc-spec = tie.close (tie.spec (λ c. search needs) (λ c. search needs) (λ c κs. search needs) returns (λ c κs. search needs) returns-2 (λ c κs. search needs) returns-3 returns-4 returns-5)

@@ -13,8 +13,8 @@ returns c =
     let o = p .before in
     let t = o .before .before in
     let a = t .before .args in
-    c .create-operate-record .ensures
-    ∙ enters (ofSettings (a .k)) (a .bar) (a .c) (a .side) (a .h) (o .open-operate .ensures) (p .side-pos .ensures) (n .open-now .ensures)
+    c .create-operate-record .ensures (a .lots)
+    ∙ enters (ofSettings (a .k)) (a .bar) (a .c) (a .side) (a .lots) (a .h) (o .open-operate .ensures) (p .side-pos .ensures) (n .open-now .ensures (a .lots))
     (sym (t .can-open .ensures) ∙ o .before .if1 .taken)
 
 returns-2 : tie.Need-returns-2
@@ -23,8 +23,8 @@ returns-2 c =
     let o = u .before in
     let t = o .before .before in
     let a = t .before .args in
-    c .create-operate-record2 .ensures
-    ∙ turns (ofSettings (a .k)) (a .bar) (a .c) (a .side) (a .h) (o .other .ensures) (c .before .close-operate .ensures) (sym (t .can-open .ensures) ∙ o .before .if1 .left)
+    c .create-operate-record2 .ensures (a .lots)
+    ∙ turns (ofSettings (a .k)) (a .bar) (a .c) (a .side) (a .lots) (a .h) (o .other .ensures) (c .before .close-operate .ensures) (sym (t .can-open .ensures) ∙ o .before .if1 .left)
     (sym (u .can-close .ensures) ∙ c .before .before .if2 .taken)
 
 returns-3 : tie.Need-returns-3
@@ -33,7 +33,7 @@ returns-3 c =
     let o = u .before in
     let t = o .before .before in
     let a = t .before .args in
-    keeps (ofSettings (a .k)) (a .bar) (a .c) (a .side) (a .h) (o .other .ensures) (sym (t .can-open .ensures) ∙ o .before .if1 .left)
+    keeps (ofSettings (a .k)) (a .bar) (a .c) (a .side) (a .lots) (a .h) (o .other .ensures) (sym (t .can-open .ensures) ∙ o .before .if1 .left)
     (sym (u .can-close .ensures) ∙ c .if2 .left)
 
 pub open-or-close-spec : {M : Type 1} → statement M
