@@ -1,0 +1,3 @@
+-- A book from before lots is read as it was written.
+pub mod Entries
+pub mod Kept

@@ -1,0 +1,2 @@
+-- What a book was before lots.
+pub mod Older
