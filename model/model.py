@@ -1,7 +1,7 @@
 #!/usr/bin/env python3
 """A plain model of document 01: sheets, matching, the machine, the book's bytes and checks, rows, the run program; and
 of document 02: W1, the exchange's comma lines, W2, stops in hundredths of a basis point, W3, the trading day that opens
-in the evening, and W4, lots.
+in the evening, W4, lots, and W8, scores up to 1,000.
 
 It is independent of the definitions and of the code: it was written before they were read. (One line was changed after that:
 `choose` asks openings before exits in a table that mixes them.) Tables are left out: a call here takes the sheet.
@@ -23,6 +23,7 @@ IDMAX = 2_147_483_647
 DAY = 86_400_000_000
 MINUTE = 60_000_000
 LOTS = 1_000
+SCORE = 1_000
 TEXT = 16_384
 
 
@@ -148,11 +149,12 @@ class Clause:
 
 
 def read_signal(b):
+    """seven parts, else 5; the last a score of 0 to 1,000 (02, W8), else 6"""
     p = b.split(b"_")
     if len(p) != 7:
         raise Refused(5)
     s = read_i32(p[6])
-    if s is None or not 0 <= s <= 100:
+    if s is None or not 0 <= s <= SCORE:
         raise Refused(6)
     return p[0:3], p[3:6], s
 

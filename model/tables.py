@@ -137,7 +137,7 @@ def read_table(t):
     values = words_of(rows(3, 4), section(7), 1)
     clauses = rows(1, 6)
     for kind, key, v1, v2, v3, score in clauses:
-        need(kind <= 2 and key < k and score <= 100)
+        need(kind <= 2 and key < k and score <= model.SCORE)
         need(all(x == WILD or 1 <= x <= v for x in (v1, v2, v3)))
     first_use([r[1] for r in clauses], k)
     first_use([x - 1 for r in clauses for x in r[2:5] if x != WILD], v)

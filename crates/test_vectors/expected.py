@@ -95,7 +95,7 @@ def signal(text):
     if not number and len(parts) != 7:
         number = 5
     score = i32_of(parts[-1])
-    if not number and (score is None or not 0 <= score <= 100):
+    if not number and (score is None or not 0 <= score <= 1_000):
         number = 6
     if number:
         return joined(number, b"", b"", b"", b"", 0)

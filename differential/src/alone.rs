@@ -4,7 +4,7 @@ use crate::counts::Counts;
 use crate::ours::{FOREIGN, operate_name};
 use crate::shown::same;
 use crate::theirs::parse_operate;
-use inputs::{Rng, TEXT_LIMIT, damage};
+use inputs::{RUST_SCORE_LIMIT, Rng, SCORE_LIMIT, TEXT_LIMIT, damage};
 use position_book::raw;
 use reference::objects::operate::Operate;
 use reference::objects::signal::Signal;
@@ -37,12 +37,25 @@ pub fn compare(rng: &mut Rng, counts: &mut Counts) -> Result<(), String> {
     Ok(())
 }
 
+/// Compares a signal, unless its score is one that the Rust refuses and document 02 takes (W8): such a text is only counted.
 fn compare_signal(bytes: &[u8], counts: &mut Counts) -> Result<(), String> {
     let theirs = domain(bytes).and_then(their_signal);
+    let what = format!("signal {:?}", String::from_utf8_lossy(bytes));
+    if has_high_score(bytes) {
+        counts.add("signals left out", 1);
+        return same(&what, &theirs, &Err(6));
+    }
     counts.add("signals", 1);
     counts.add("refused", usize::from(theirs.is_err()));
-    let what = format!("signal {:?}", String::from_utf8_lossy(bytes));
     same(&what, &our_signal(bytes), &(theirs, true))
+}
+
+/// Whether a text has seven parts and a score above the Rust's limit, up to ours.
+fn has_high_score(bytes: &[u8]) -> bool {
+    let parts: Vec<&str> = domain(bytes).map_or(Vec::new(), |text| text.split('_').collect());
+    let score = parts.get(6).and_then(|part| part.parse().ok());
+    parts.len() == 7
+        && score.is_some_and(|score| (RUST_SCORE_LIMIT + 1..=SCORE_LIMIT).contains(&score))
 }
 
 fn compare_operate(bytes: &[u8], counts: &mut Counts) -> Result<(), String> {

@@ -25,9 +25,20 @@ impl Counts {
 /// The things that each input is made of, in one line.
 impl fmt::Display for Counts {
     fn fmt(&self, f: &mut fmt::Formatter<'_>) -> fmt::Result {
-        const LINE: [&str; 12] = [
-            "inputs", "bars", "late", "records", "holds", "pairs", "saves", "restores", "signals",
-            "operates", "damaged", "refused",
+        const LINE: [&str; 13] = [
+            "inputs",
+            "bars",
+            "late",
+            "records",
+            "holds",
+            "pairs",
+            "saves",
+            "restores",
+            "signals",
+            "signals left out",
+            "operates",
+            "damaged",
+            "refused",
         ];
         let parts: Vec<String> = LINE
             .iter()

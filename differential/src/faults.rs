@@ -25,7 +25,7 @@ const NOT_FINITE: [u64; 5] = [
 
 const NO_OPERATES: [&str; 7] = ["lo", "LOO", "", "开", "开多 ", "L", "HOLD"];
 const NOT_SEVEN_PARTS: [&str; 6] = ["", "a_b_c_d_e_5", "a_b_c_d_e_f_g_5", "_", "任意", "_______"];
-const NO_SCORES: [&str; 9] = ["101", "-1", "", "x", "+", "2147483648", "1.0", " 1", "５"];
+const NO_SCORES: [&str; 9] = ["1001", "-1", "", "x", "+", "2147483648", "1.0", " 1", "５"];
 
 /// Lines at a sheet's end with a wrong tag, at a wrong place or with a wrong number of fields.
 const WRONG_IN_SHEET: [&str; 11] = [

@@ -41,7 +41,7 @@ refusals! {
     3 WrongNumber: "a numeric field is malformed or out of range",
     4 UnknownOperate: "the operate is unknown",
     5 WrongParts: "a signal does not have 7 parts",
-    6 WrongScore: "a score is unreadable or outside 0..100",
+    6 WrongScore: "a score is unreadable or outside 0..1,000",
     7 PastLimit: "a text, a name or a count passes its limit",
     8 WrongLength: "a buffer does not have the length that the call needs",
     9 NotTable: "the bytes are not a table of this layout",

@@ -13,7 +13,7 @@ pub struct Signal {
     pub v1: String,
     pub v2: String,
     pub v3: String,
-    /// 0 to 100.
+    /// 0 to 1,000.
     pub score: u32,
 }
 

@@ -2,7 +2,8 @@
 //!
 //! One of the former layout is none: every exported call that takes a table gives 9 for it and changes no byte, whatever
 //! its interval is. Its stop would be read as a hundredth of what was signed. One of this layout from before sheets had an
-//! evening, or lots, is a table still, with the meaning that it had; where these now stand it has zeros.
+//! evening, or lots, is a table still, with the meaning that it had; where these now stand it has zeros. So is one from
+//! before scores could be above 100.
 
 mod older;
 mod printed;
@@ -37,6 +38,18 @@ const WITHOUT_LOTS: [[&str; 3]; 3] = [
         "evening-without-lots",
         "examples/evening",
         "examples/evening.out",
+    ],
+];
+
+/// Tables as they were compiled before scores could be above 100, in the same way: those above, and one with lots.
+const SCORES_TO_100: [[&str; 3]; 4] = [
+    WITHOUT_LOTS[0],
+    WITHOUT_LOTS[1],
+    WITHOUT_LOTS[2],
+    [
+        "lots-with-scores-to-100",
+        "examples/lots",
+        "examples/lots.out",
     ],
 ];
 
@@ -168,9 +181,9 @@ fn compiled(sheet: &str) -> Vec<u8> {
 }
 
 #[test]
-fn every_call_takes_a_table_without_an_evening_or_lots() {
+fn every_call_takes_an_older_table_of_this_layout() {
     let mut lent = lent();
-    for [name, ..] in WITHOUT_LOTS {
+    for [name, ..] in SCORES_TO_100 {
         lent.table = older(name);
         for call in CALLS {
             assert_eq!(number(call, &mut lent.clone()), 0, "{call}, {name}");
@@ -178,32 +191,57 @@ fn every_call_takes_a_table_without_an_evening_or_lots() {
     }
 }
 
-#[test]
-fn a_table_without_an_evening_means_what_it_meant() -> Result<(), Refusal> {
-    for [name, input, output] in WITHOUT_EVENING {
-        let (table, input) = (older(name), file(input));
-        let (sheet, lines) = season(&input);
-        assert!(compiled(sheet) == table, "{name} is not its sheet's table");
-        let said = sheet.replacen('\n', "|0\n", 1);
-        assert!(compiled(&said) == table, "{name} is not that of 0");
-        let table = Table::from_bytes(&table)?;
-        assert_eq!(printed(&table, lines)?, file(output), "{name}");
-    }
+/// An older table is that of its sheet, also where the sheet says what it could not say then, and prints what it printed.
+fn is_kept([name, input, output]: [&str; 3], said: impl Fn(&str) -> String) -> Result<(), Refusal> {
+    let (table, input) = (older(name), file(input));
+    let (sheet, lines) = season(&input);
+    assert!(compiled(sheet) == table, "{name} is not its sheet's table");
+    assert!(compiled(&said(sheet)) == table, "{name} says another");
+    let table = Table::from_bytes(&table)?;
+    assert_eq!(printed(&table, lines)?, file(output), "{name}");
     Ok(())
 }
 
 #[test]
+fn a_table_without_an_evening_means_what_it_meant() -> Result<(), Refusal> {
+    let mut tables = WITHOUT_EVENING.into_iter();
+    tables.try_for_each(|table| is_kept(table, |sheet| sheet.replacen('\n', "|0\n", 1)))
+}
+
+#[test]
 fn a_table_without_lots_means_what_it_meant() -> Result<(), Refusal> {
-    for [name, input, output] in WITHOUT_LOTS {
-        let (table, input) = (older(name), file(input));
-        let (sheet, lines) = season(&input);
-        assert!(compiled(sheet) == table, "{name} is not its sheet's table");
-        let said = compiled(&with_lots(sheet, 1));
-        assert!(said == table, "{name} is not that of 1 lot");
-        let table = Table::from_bytes(&table)?;
-        assert_eq!(printed(&table, lines)?, file(output), "{name}");
+    let mut tables = WITHOUT_LOTS.into_iter();
+    tables.try_for_each(|table| is_kept(table, |sheet| with_lots(sheet, 1)))
+}
+
+#[test]
+fn a_table_with_scores_to_100_means_what_it_meant() -> Result<(), Refusal> {
+    let mut tables = SCORES_TO_100.into_iter();
+    tables.try_for_each(|table| is_kept(table, |sheet| sheet.to_string()))
+}
+
+/// A sheet whose first clause has that score.
+fn with_score(sheet: &str, score: u16) -> String {
+    let clause = sheet.find("\nA|").expect("an A clause comes first") + 1;
+    let end = clause + sheet[clause..].find('\n').unwrap();
+    let place = sheet[..end].rfind('_').unwrap() + 1;
+    format!("{}{score}{}", &sheet[..place], &sheet[end..])
+}
+
+/// With another score set in its first clause it is the table of the sheet with that score.
+#[test]
+fn higher_scores_fit_in_a_table_with_scores_to_100() {
+    for [name, input, _] in SCORES_TO_100 {
+        let (mut table, input) = (older(name), file(input));
+        let clauses = u32::from_le_bytes(table[48..52].try_into().unwrap()) as usize;
+        for score in 0..=1_000u16 {
+            table[clauses + 10..clauses + 12].copy_from_slice(&score.to_le_bytes());
+            let said = compiled(&with_score(season(&input).0, score));
+            assert!(said == table, "{name}, {score}");
+        }
+        table[clauses + 10..clauses + 12].copy_from_slice(&1_001u16.to_le_bytes());
+        assert_eq!(Table::from_bytes(&table), Err(Refusal::NotTable), "{name}");
     }
-    Ok(())
 }
 
 /// A sheet whose openings all say so many lots.

@@ -1,15 +1,14 @@
 -- A book from before lots passes the checks of today, and its lists are those that it had. Assumes nothing.
 use Prim.Native.Nat.{ℕ, _-_, _≤_}
 use mathlib.Core.Bool.{Bool, true, false, cond, _&&_, and-eq-true-iff}
-use mathlib.Core.List.{List, [], _∷_, map}
-use mathlib.Core.Path.{_≡_, refl, ap₂}
+use mathlib.Core.List.{List}
+use mathlib.Core.Path.{_≡_}
 use lib.Dec.{eqb}
 use Rattle.le.specs.Le.{part}
 use Rattle.le.specs.Field.{u32}
 use Rattle.text.specs.Text.{same}
-use Rattle.text.specs.Conditions.{every}
 use Rattle.text.proofs.Conditions.{fact, none-left, _also_, sure}
-use Rattle.text.proofs.Every.{every-cons, cons-every}
+use Rattle.text.proofs.Every.{every-passes, every-same}
 use Rattle.position.specs.State.{freshHead}
 use Rattle.book.specs.Layout.{headBytes, holdPlace, holdSlots, recordSlots, holdsOf, recordsOf}
 use Rattle.book.specs.Check.{countsOk, holdOk, lastOk, usedOk, headerOk, recordOk, fullOk}
@@ -48,17 +47,6 @@ header-passes c b h = go (eqb (u32 b 0) 0) (and-eq-true-iff (countsOk c b) _ .0 
     go true k = rw (k .0) (k .1)
     go false k = rw (k .0) (used-passes b (k .1))
 
--- ---- the lists
-
-each-passes : (f g : List ℕ → Bool) → ((o : List ℕ) → f o ≡ true → g o ≡ true) → (os : List (List ℕ)) → every f os ≡ true → every g os ≡ true
-unfolding every
-each-passes f g k [] h = refl
-each-passes f g k (o ∷ os) h = let e = every-cons f o os h in cons-every g o os (k o (e .0)) (each-passes f g k os (e .1))
-
-each-same : {X : Type 0} (f : List ℕ → Bool) (x y : List ℕ → X) → ((o : List ℕ) → f o ≡ true → x o ≡ y o) → (os : List (List ℕ)) → every f os ≡ true → map x os ≡ map y os
-each-same f x y k [] h = refl
-each-same f x y k (o ∷ os) h = let e = every-cons f o os h in ap₂ _∷_ (k o (e .0)) (each-same f x y k os (e .1))
-
 -- ---- the book
 
 pub older-kept : (n c : ℕ) (b : List ℕ) → n ≤ 32 → fullWas n c b ≡ true → Kept n c b
@@ -71,11 +59,11 @@ older-kept n c b few h =
           sure
           (header
           also fact _ h 1
-          also each-passes holdWas holdOk hold-passes (holdSlots b) (fact _ h 2)
+          also every-passes holdWas holdOk hold-passes (holdSlots b) (fact _ h 2)
           also fact _ h 3
-          also each-passes (recordWas n) (recordOk n) (record-passes n few) (recordSlots c b) (fact _ h 4)
+          also every-passes (recordWas n) (recordOk n) (record-passes n few) (recordSlots c b) (fact _ h 4)
           also fact _ h 5
           also none-left);
-      holds = each-same holdWas _ _ hold-same (holdSlots b) (fact _ h 2);
-      records = each-same (recordWas n) _ _ (record-same n few) (recordSlots c b) (fact _ h 4);
+      holds = every-same holdWas _ _ hold-same (holdSlots b) (fact _ h 2);
+      records = every-same (recordWas n) _ _ (record-same n few) (recordSlots c b) (fact _ h 4);
     }

@@ -51,6 +51,14 @@ scores : (holds (line (bytes "a_x__5")) strict ≡ true) × (holds (line (bytes 
 unfolding opened
 scores = (refl, refl, refl, refl)
 
+-- a clause of 1,000: bars of 999, 1,000 and 1,001
+abbrev high : Signal
+high = record { key = bytes "k"; v1 = bytes "a"; v2 = bytes "x"; v3 = []; score = 1_000 }
+
+thousandths : (holds (line (bytes "a_x__999")) high ≡ false) × (holds (line (bytes "a_x__1000")) high ≡ true) × (holds (line (bytes "a_x__1001")) high ≡ true)
+unfolding opened
+thousandths = (refl, refl, refl)
+
 -- a wild value against another and against an empty one; a value that differs; no value of the bar is wild
 values : (holds (line (bytes "a_x__6")) clause ≡ true) × (holds (line (bytes "a___6")) clause ≡ true) × (holds (line (bytes "a_x_y_6")) clause ≡ false)
     × (holds (line (bytes "任意_x__6")) clause ≡ false)

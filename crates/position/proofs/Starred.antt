@@ -132,6 +132,14 @@ clauses : RowRight (Runs Further.clauses)
 unfolding opened lines stateAfter
 clauses = (refl, refl)
 
+score-of-1000 : RowRight (Runs Further.score-of-1000)
+unfolding opened lines stateAfter
+score-of-1000 = (refl, refl)
+
+score-of-1001 : RowRight (Runs Further.score-of-1001)
+unfolding opened lines stateAfter
+score-of-1001 = (refl, refl)
+
 tagged-names : RowRight (Runs Further.tagged-names)
 unfolding opened lines stateAfter
 tagged-names = (refl, refl)
@@ -170,4 +178,4 @@ capital-digits = (refl, refl)
 
 pub misread : Right further
 unfolding further
-misread = (stop-edge, (stop-edge-short, (fine-stop, (two-roundings, (timeout-short, (local-day-differs, (local-day-same, (before-1970, (reversal, (reversal-too-soon, (reversal-same-day, (refused-bars, (keys-without, (empty-texts, (clauses, (tagged-names, (tagged-other, (opened-at-zero, (endless-yields, (no-events, (sheet-first, (signal-first, (malformed-bar, (capital-digits, tt))))))))))))))))))))))))
+misread = (stop-edge, (stop-edge-short, (fine-stop, (two-roundings, (timeout-short, (local-day-differs, (local-day-same, (before-1970, (reversal, (reversal-too-soon, (reversal-same-day, (refused-bars, (keys-without, (empty-texts, (clauses, (score-of-1000, (score-of-1001, (tagged-names, (tagged-other, (opened-at-zero, (endless-yields, (no-events, (sheet-first, (signal-first, (malformed-bar, (capital-digits, tt))))))))))))))))))))))))))

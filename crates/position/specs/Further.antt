@@ -214,6 +214,30 @@ clauses =
       operates = LO ∷ [];
     }
 
+-- "1,000 and 1,001 join the examples": a clause of 1,000 is not met by 999, and is by 1,000 and by 1,001, which a bar may have
+abbrev pub score-of-1000 : Case
+score-of-1000 =
+    record {
+      input =
+          "P|n|s|0|5|100|1" ∷ "O|LO|go" ∷ "A|d1_u_w_up_任意_任意_1000" ∷ "X|LE|out" ∷ "A|d1_u_w_down_任意_任意_1000" ∷ "-"
+          ∷ "B|1|0|0|4059000000000000" ∷ "S|d1_u_w|up_a_b_999" ∷ "B|2|1000000|0|4059000000000000" ∷ "S|d1_u_w|up_a_b_1000"
+          ∷ "B|3|2000000|0|4059000000000000" ∷ "S|d1_u_w|down_a_b_999" ∷ "B|4|3000000|0|4059000000000000" ∷ "S|d1_u_w|down_a_b_1001" ∷ [];
+      output =
+          "F|0|0|0" ∷ "F|0|1|1" ∷ "F|0|1|0" ∷ "F|0|0|1"
+          ∷ "R|s|n|L|1000000|3000000|4059000000000000|4059000000000000|2|go@is_match -> out@is_match|3ef845c8a0ce5129|0000000000000000|1"
+          ∷ "H|0|0|4059000000000000|0000000000000000" ∷ "H|1000000|1|4059000000000000|0000000000000000"
+          ∷ "H|2000000|1|4059000000000000|0000000000000000" ∷ "H|3000000|0|4059000000000000|-" ∷ [];
+      operates = LO ∷ LE ∷ [];
+    }
+
+abbrev pub score-of-1001 : Case
+score-of-1001 =
+    record {
+      input = "P|n|s|0|5|100|1" ∷ "O|LO|go" ∷ "A|d1_u_w_up_任意_任意_1001" ∷ "-" ∷ [];
+      output = "E|6" ∷ [];
+      operates = [];
+    }
+
 -- names that start with an operate's spelling and `#`: LO#1, and 平空# of an LE
 abbrev pub tagged-names : Case
 tagged-names =
@@ -337,6 +361,8 @@ further =
     ∷ Runs keys-without
     ∷ Runs empty-texts
     ∷ Runs clauses
+    ∷ Runs score-of-1000
+    ∷ Runs score-of-1001
     ∷ Runs tagged-names
     ∷ Runs tagged-other
     ∷ Runs opened-at-zero

@@ -124,8 +124,16 @@ lots-18 : (after (bytes "O|LO|a|0\n") ≡ Refused 18) × (after (bytes "O|LO|a|1
 unfolding opened
 lots-18 = (refl, refl, refl, refl, refl)
 
+-- the scores of each event's clauses, up to 1,000
+abbrev scoresOfAll : Answer Sheet → Answer (List (List ℕ))
+scoresOfAll x = x >>= λ s. Got (map (λ e. map (λ c. c .signal .score) (e .clauses)) (s .events))
+
+scores : scoresOfAll (after (bytes "O|LO|a\nA|a_b_c_1_2_3_0\nY|a_b_c_1_2_3_101\nX|LE|b\nN|a_b_c_1_2_3_1000\n")) ≡ Got ((0 ∷ 101 ∷ []) ∷ (1_000 ∷ []) ∷ [])
+unfolding opened
+scores = refl
+
 -- an operate, a signal's parts, its score
-later-456 : (after (bytes "O|lo|a\n") ≡ Refused 4) × (after (bytes "O|LO|a\nA|a_b\n") ≡ Refused 5) × (after (bytes "O|LO|a\nY|a_b_c_1_2_3_101\n") ≡ Refused 6)
+later-456 : (after (bytes "O|lo|a\n") ≡ Refused 4) × (after (bytes "O|LO|a\nA|a_b\n") ≡ Refused 5) × (after (bytes "O|LO|a\nY|a_b_c_1_2_3_1001\n") ≡ Refused 6)
 unfolding opened
 later-456 = (refl, refl, refl)
 
@@ -134,7 +142,7 @@ later-456 = (refl, refl, refl)
 -- in one line: place before signal (2 before 5), operate before name (4 before 7), name before number (7 before 3), parts before score
 -- (5 before 6); a missing LF counts at its line, so the line before it decides
 two-faults : (after (bytes "A|a_b\n") ≡ Refused 2) × (after (bytes "O|ZZ|" ++ replicate 257 97 ++ bytes "\n") ≡ Refused 4)
-    × (readSheet (bytes "P|" ++ replicate 257 97 ++ bytes "|s|x|0|0|0\n") ≡ Refused 7) × (after (bytes "O|LO|a\nA|a_b_101\n") ≡ Refused 5)
+    × (readSheet (bytes "P|" ++ replicate 257 97 ++ bytes "|s|x|0|0|0\n") ≡ Refused 7) × (after (bytes "O|LO|a\nA|a_b_1001\n") ≡ Refused 5)
     × (after (bytes "O|ZZ|a\nO|LO|a") ≡ Refused 4) × (after (bytes "O|LO|a\nO|ZZ|a") ≡ Refused 2)
 unfolding opened
 two-faults = (refl, refl, refl, refl, refl, refl)

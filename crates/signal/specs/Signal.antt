@@ -32,10 +32,11 @@ withoutWild (p ∷ ps) = cond (same p wildcard) (withoutWild ps) (p ∷ withoutW
 unfoldable pub keyOf : List ℕ → List ℕ → List ℕ → List ℕ
 keyOf k1 k2 k3 = joined (underscore ∷ []) (withoutWild (k1 ∷ k2 ∷ k3 ∷ []))
 
--- "here 0..100"
+-- "A sheet's score may be 0 to 1,000"
 abbrev pub scoreLimit : ℕ
-scoreLimit = 100
+scoreLimit = 1_000
 
+-- "6 is given outside that"
 abbrev pub score : Option ℤ → Option ℕ
 score none = none
 score (some (pos n)) = cond (leb n scoreLimit) (some n) none

@@ -19,7 +19,7 @@ ghost use Rattle.signal.specs.Signal.{wildcard, score as Signal·score};
 ghost use Rattle.signal.specs.Read.{ThreeFrom, LastFrom, signalIn, SignalOk, ReadAs, AloneAs, keyPart, KeyPut, KeyAt, ValueAs};
 
 // The highest score of a signal.
-pub const SCORE_LIMIT: u64 = 100;
+pub const SCORE_LIMIT: u64 = 1_000;
 
 // The places of three underscores, one behind each of three parts, or too few parts.
 enum Three {

@@ -114,9 +114,17 @@ events = (refl, refl, refl)
 
 -- a clause's kind, key, value codes 0 and 3, score
 clauses : (changed 104 (put16 3) ≡ Refused 9) × (changed 106 (put16 1) ≡ Refused 9) × (changed 108 (put16 0) ≡ Refused 9)
-    × (changed 108 (put16 3) ≡ Refused 9) × (changed 114 (put16 101) ≡ Refused 9)
+    × (changed 108 (put16 3) ≡ Refused 9) × (changed 114 (put16 1_001) ≡ Refused 9)
 unfolding opened soy
 clauses = (refl, refl, refl, refl, refl)
+
+-- a score up to 1,000 is read as it stands
+abbrev firstScores : Answer Sheet → Answer (List ℕ)
+firstScores x = x >>= λ s. Got (map (λ c. c .signal .score) (getD (map (λ e. e .clauses) (s .events)) 0 []))
+
+scores : (firstScores (changed 114 (put16 101)) ≡ Got (101 ∷ [])) × (firstScores (changed 114 (put16 1_000)) ≡ Got (1_000 ∷ []))
+unfolding opened soy
+scores = (refl, refl)
 
 -- values not in order of first use; a value that is not used
 uses : (readTable (patch (patch soy 108 (put16 2)) 120 (put16 1)) ≡ Refused 9) × (changed 120 (put16 1) ≡ Refused 9)

@@ -1,6 +1,5 @@
 -- The definitions of the compiled table.
 pub mod Layout
 pub mod Table
-pub mod Older
 pub mod Compile
 pub mod Read

@@ -26,10 +26,10 @@ abbrev clause : List ℕ → List ℕ → ℕ → Clause
 clause key v1 score = record { kind = All; signal = record { key = key; v1 = v1; v2 = bytes "任意"; v3 = []; score = score } }
 
 -- a wildcard in the key, four parts, an underscore in a value, a `|`, no UTF-8, a score past its limit
-clauses : (fineClause (clause (bytes "a_b_c") (bytes "v") 100) ≡ true) × (fineClause (clause [] [] 0) ≡ true)
+clauses : (fineClause (clause (bytes "a_b_c") (bytes "v") 1_000) ≡ true) × (fineClause (clause [] [] 0) ≡ true)
     × (fineClause (clause (bytes "a_任意") (bytes "v") 0) ≡ false) × (fineClause (clause (bytes "a_b_c_d") (bytes "v") 0) ≡ false)
     × (fineClause (clause (bytes "a") (bytes "v_w") 0) ≡ false) × (fineClause (clause (bytes "a|b") (bytes "v") 0) ≡ false)
-    × (fineClause (clause (bytes "a") (0xff ∷ []) 0) ≡ false) × (fineClause (clause (bytes "a") (bytes "v") 101) ≡ false)
+    × (fineClause (clause (bytes "a") (0xff ∷ []) 0) ≡ false) × (fineClause (clause (bytes "a") (bytes "v") 1_001) ≡ false)
 unfolding opened
 clauses = (refl, refl, refl, refl, refl, refl, refl, refl)
 

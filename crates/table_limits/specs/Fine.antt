@@ -16,7 +16,7 @@ use Rattle.table_words.specs.Words.{clean, isWild, wordOk, keyParts, valueParts
 abbrev pub valueOk : List ℕ → Bool
 valueOk v = isWild v || wordOk valueParts v
 
--- its key and its values may stand in a table, and its score is "here 0..100"
+-- its key and its values may stand in a table, and its score is "0 to 1,000"
 unfoldable pub fineClause : Clause → Bool
 fineClause c =
     let s = c .signal in

@@ -52,7 +52,7 @@ fn lines(
     }
 }
 
-// Reads at most 80,000 bytes. A text has room for 20,000.
+// Reads at most 100,000 bytes. A text has room for 20,000.
 fn main() {
     let mut space = [0u8; 100000];
     let n = io::read_full(STDIN_FILENO, &mut space);

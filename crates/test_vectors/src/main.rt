@@ -62,9 +62,9 @@ fn lines(s: &[u8]) {
     }
 }
 
-// Reads at most 65,536 bytes.
+// Reads at most 100,000 bytes.
 fn main() {
-    let mut space = io::large_buffer();
+    let mut space = [0u8; 100000];
     let n = io::read_full(STDIN_FILENO, &mut space);
     lines(&space[..n]);
 }

@@ -1,9 +1,9 @@
--- A condition on each element of a list: taken out, put together, and of lists one behind another. Assumes nothing.
+-- A condition on each element of a list: taken out, put together, of lists one behind another, and what follows from it of each. Assumes nothing.
 use Prim.Native.Nat.{ℕ, zero, suc, _<_}
 use native.Mathlib.Omega.{arith}
 use mathlib.Core.Bool.{Bool, true, false, cond, _&&_, false≢true}
-use mathlib.Core.List.{List, [], _∷_, _++_}
-use mathlib.Core.Path.{_≡_, refl}
+use mathlib.Core.List.{List, [], _∷_, _++_, map}
+use mathlib.Core.Path.{_≡_, refl, ap₂}
 use lib.ListN.{length, getD}
 use Rattle.text.specs.Conditions.{every}
 
@@ -63,3 +63,14 @@ module _ {X : Type 0} (f : X → Bool) where
   unfolding every
   every-of d [] h = refl
   every-of d (x ∷ xs) h = rw (h 0 (omega arith)) (every-of d xs (λ i k. h (suc i) (omega arith)))
+
+  -- another condition, where it follows
+  pub every-passes : (g : X → Bool) → ((x : X) → f x ≡ true → g x ≡ true) → (xs : List X) → every f xs ≡ true → every g xs ≡ true
+  unfolding every
+  every-passes g h [] e = refl
+  every-passes g h (x ∷ xs) e = let p = every-cons x xs e in rw (h x (p .0)) (every-passes g h xs (p .1))
+
+  -- two functions that agree where it holds
+  pub every-same : {Y : Type 0} (a b : X → Y) → ((x : X) → f x ≡ true → a x ≡ b x) → (xs : List X) → every f xs ≡ true → map a xs ≡ map b xs
+  every-same a b h [] e = refl
+  every-same a b h (x ∷ xs) e = let p = every-cons x xs e in ap₂ _∷_ (h x (p .0)) (every-same a b h xs (p .1))

@@ -16,11 +16,12 @@ pub fn signal(rng: &mut Rng) -> String {
 }
 
 fn score(rng: &mut Rng) -> String {
-    match rng.below(4) {
+    match rng.below(5) {
         0 => words::odd_score(rng),
         1 => rng
-            .pick(&["100", "101", "-1", "+100", "0000000000100"])
+            .pick(&["100", "1001", "-1", "+100", "0000000000100", "+1001"])
             .to_string(),
+        2 => words::high_score(rng),
         _ => words::clause_score(rng),
     }
 }

@@ -28,6 +28,9 @@ pub const LAST_OFFSET: i64 = 86_399;
 pub const LAST_EVENING: i64 = 1_439;
 /// The most lots.
 pub const LOTS_LIMIT: i64 = 1_000;
+/// The highest score of a sheet's clause, and the highest that the Rust takes.
+pub const SCORE_LIMIT: i64 = 1_000;
+pub const RUST_SCORE_LIMIT: i64 = 100;
 /// The last id of a bar.
 pub const LAST_ID: i64 = 2_147_483_647;
 /// The most bytes of a text.
@@ -41,10 +44,11 @@ pub const NAME_LIMIT: usize = 256;
 
 /// A valid season: a sheet, and the bars that are fed, with a save and a restore here and there. Its days open at
 /// midnight, as the Rust's do: one sheet in three says so by a seventh value of 0, the others have none. No opening says
-/// lots, so that all are 1.
+/// lots, so that all are 1, and scores stop at 100.
 pub fn season(rng: &mut Rng) -> Season {
     let evening = rng.once_in(3).then_some(0);
-    with_evening(rng, evening)
+    let sheet = sheets::sheet(rng, evening);
+    with_bars(rng, sheet)
 }
 
 /// The same with lots (document 02, W4), which the Rust is not told.
@@ -53,10 +57,12 @@ pub fn lots_season(rng: &mut Rng) -> Season {
     with_lots(rng, season)
 }
 
-/// The same with any evening too (W3), of which the Rust knows nothing.
-pub fn evening_season(rng: &mut Rng) -> Season {
+/// The same with all that document 02 lets a sheet say: any evening (W3) and scores up to 1,000 (W8) too, which the Rust does not take.
+pub fn full_season(rng: &mut Rng) -> Season {
     let evening = sheets::evening(rng);
-    let season = with_evening(rng, evening);
+    let mut sheet = sheets::sheet(rng, evening);
+    sheets::raise_scores(rng, &mut sheet);
+    let season = with_bars(rng, sheet);
     with_lots(rng, season)
 }
 
@@ -65,8 +71,7 @@ fn with_lots(rng: &mut Rng, mut season: Season) -> Season {
     season
 }
 
-fn with_evening(rng: &mut Rng, evening: Option<i64>) -> Season {
-    let sheet = sheets::sheet(rng, evening);
+fn with_bars(rng: &mut Rng, sheet: Sheet) -> Season {
     let steps = bars::steps(rng, &sheet);
     Season { sheet, steps }
 }

@@ -83,6 +83,19 @@ pub fn evening(rng: &mut Rng) -> Option<i64> {
     }
 }
 
+/// Gives some clauses of a sheet another score, up to 1,000, as long as its text has room for it.
+pub fn raise_scores(rng: &mut Rng, sheet: &mut Sheet) {
+    let mut room = TEXT_LIMIT - sheet.text().len();
+    for clause in sheet.events.iter_mut().flat_map(|event| &mut event.clauses) {
+        let score = words::high_score(rng);
+        let more = score.len().saturating_sub(clause.parts[6].len());
+        if rng.once_in(2) && more <= room {
+            clause.parts[6] = score;
+            room -= more;
+        }
+    }
+}
+
 /// Says lots in some openings of a sheet, as long as its text has room for them.
 pub fn add_lots(rng: &mut Rng, sheet: &mut Sheet) {
     for index in 0..sheet.events.len() {

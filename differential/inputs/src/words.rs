@@ -37,8 +37,13 @@ const NAMES: [&str; 34] = [
     "\r", "\0", "\u{feff}", "平空", "平多", "开空 #", "SE", "SOx#", "LE1", "xLO#",
 ];
 
-/// Scores that a clause may have.
+/// Scores that a clause may have, and that the Rust takes.
 const CLAUSE_SCORES: [&str; 9] = ["0", "100", "10", "50", "99", "+5", "007", "-0", "+0100"];
+
+/// Scores about the Rust's limit, about 256 and about the limit.
+const HIGH_SCORES: [&str; 9] = [
+    "101", "+101", "255", "256", "500", "999", "1000", "+1000", "0001000",
+];
 
 /// Fourth parts of a bar's value that are hard to read as a number, or no number at all.
 const ODD_SCORES: [&str; 16] = [
@@ -79,8 +84,16 @@ pub fn name(rng: &mut Rng) -> String {
 
 pub fn clause_score(rng: &mut Rng) -> String {
     match rng.below(3) {
-        0 => rng.between(0, 100).to_string(),
+        0 => rng.between(0, crate::RUST_SCORE_LIMIT).to_string(),
         _ => rng.pick(&CLAUSE_SCORES).to_string(),
+    }
+}
+
+/// A score of a clause, mostly one that the Rust does not take.
+pub fn high_score(rng: &mut Rng) -> String {
+    match rng.below(3) {
+        0 => rng.between(0, crate::SCORE_LIMIT).to_string(),
+        _ => rng.pick(&HIGH_SCORES).to_string(),
     }
 }
 

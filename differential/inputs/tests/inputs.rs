@@ -11,21 +11,21 @@ fn lots_seasons(count: u64) -> impl Iterator<Item = Season> {
     (0..count).map(|seed| lots_season(&mut Rng::new(seed)))
 }
 
-fn evening_seasons(count: u64) -> impl Iterator<Item = Season> {
-    (0..count).map(|seed| evening_season(&mut Rng::new(seed)))
+fn full_seasons(count: u64) -> impl Iterator<Item = Season> {
+    (0..count).map(|seed| full_season(&mut Rng::new(seed)))
 }
 
 #[test]
 fn the_same_seed_gives_the_same_season() {
     assert!(seasons(200).eq(seasons(200)));
     assert!(lots_seasons(200).eq(lots_seasons(200)));
-    assert!(evening_seasons(200).eq(evening_seasons(200)));
+    assert!(full_seasons(200).eq(full_seasons(200)));
 }
 
 #[test]
 fn sheets_are_within_the_limits() {
     let mut longest = 0;
-    for Season { sheet, .. } in lots_seasons(5_000).chain(evening_seasons(5_000)) {
+    for Season { sheet, .. } in lots_seasons(5_000).chain(full_seasons(5_000)) {
         longest = longest.max(sheet.text().len());
         assert!(sheet.events.len() <= EVENT_LIMIT && sheet.clauses().count() <= LINE_LIMIT);
         assert!(sheet.events.is_sorted_by_key(|event| event.exit));
@@ -74,9 +74,9 @@ fn the_days_of_a_season_open_at_midnight() {
 }
 
 #[test]
-fn an_evening_season_says_any_evening() {
+fn a_full_season_says_any_evening() {
     let mut said = HashSet::new();
-    for Season { sheet, .. } in evening_seasons(5_000) {
+    for Season { sheet, .. } in full_seasons(5_000) {
         let minutes = evening_field(&sheet).map(|field| field.parse().expect("a number"));
         assert_eq!(minutes, sheet.evening);
         said.insert(minutes);
@@ -84,6 +84,27 @@ fn an_evening_season_says_any_evening() {
     let named = [None, Some(0), Some(1), Some(180), Some(LAST_EVENING)];
     assert!(named.iter().all(|evening| said.contains(evening)));
     assert!(said.len() > 300, "{}", said.len());
+}
+
+/// Scores of a sheet's clauses.
+fn scores(sheet: &Sheet) -> impl Iterator<Item = i64> {
+    let fields = sheet.clauses().map(|clause| &clause.parts[6]);
+    fields.map(|field| field.parse().expect("a score is a number"))
+}
+
+#[test]
+fn the_rust_takes_the_scores_of_a_season() {
+    let mut given = seasons(5_000).chain(lots_seasons(5_000));
+    assert!(given.all(|season| scores(&season.sheet).all(|n| (0..=RUST_SCORE_LIMIT).contains(&n))));
+}
+
+#[test]
+fn a_full_season_has_any_score() {
+    let mut said = HashSet::new();
+    full_seasons(5_000).for_each(|season| said.extend(scores(&season.sheet)));
+    assert!(said.iter().all(|n| (0..=SCORE_LIMIT).contains(n)));
+    assert!([0, 100, 101, 999, 1_000].iter().all(|n| said.contains(n)));
+    assert!(said.len() > 900, "{}", said.len());
 }
 
 /// The third values of a sheet's events.
@@ -98,7 +119,7 @@ fn lots_fields(sheet: &Sheet) -> Vec<String> {
 fn an_opening_says_any_lots() {
     assert!(seasons(5_000).all(|season| lots_fields(&season.sheet).is_empty()));
     let (mut said, mut padded, mut silent) = (HashSet::new(), 0, 0);
-    for Season { sheet, .. } in lots_seasons(5_000).chain(evening_seasons(5_000)) {
+    for Season { sheet, .. } in lots_seasons(5_000).chain(full_seasons(5_000)) {
         let fields = lots_fields(&sheet);
         let lots: Vec<i64> = sheet.events.iter().filter_map(|event| event.lots).collect();
         let read: Result<Vec<i64>, _> = fields.iter().map(|field| field.parse()).collect();
@@ -138,7 +159,7 @@ fn lots_change_nothing_else() {
 fn bars_stand_at_the_openings_of_trading_days() {
     let (minute, day) = (60_000_000, 86_400_000_000);
     let mut sides = [0; 2];
-    for season in evening_seasons(5_000).filter(|season| season.sheet.evening == Some(180)) {
+    for season in full_seasons(5_000).filter(|season| season.sheet.evening == Some(180)) {
         for bar in season.bars() {
             let ahead = bar.instant + bar.offset * 1_000_000 + 180 * minute;
             match ahead.rem_euclid(day) {
@@ -154,7 +175,7 @@ fn bars_stand_at_the_openings_of_trading_days() {
 #[test]
 fn bars_are_within_the_limits() {
     let mut most = 0;
-    for season in seasons(5_000).chain(evening_seasons(5_000)) {
+    for season in seasons(5_000).chain(full_seasons(5_000)) {
         for bar in season.bars() {
             most = most.max(bar.signals.len());
             let keys: HashSet<_> = bar.signals.iter().map(|(key, _)| key).collect();

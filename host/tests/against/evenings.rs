@@ -1,11 +1,8 @@
 //! The evening at the boundaries of document 02, W3, on both sides: the first line's seventh value with what it says, and
 //! the bytes of t0 and evening in a table. `trading_days` has what a bar does by them.
 
-use super::{
-    Arguments, COMPILE, Comparison, EVENT_NAME, FEED, FRESH, SAVE, every_byte_at_every_place,
-    table_calls,
-};
-use position_book::raw::{NAME_LIMIT, PAIR_ROW_LIMIT, TABLE_LENGTH, book_length};
+use super::{Arguments, COMPILE, Comparison, EVENT_NAME, every_byte_at_every_place};
+use position_book::raw::{NAME_LIMIT, TABLE_LENGTH};
 
 /// Seventh values that are read, and of each the minutes.
 const READ: [(&str, u16); 15] = [
@@ -102,11 +99,7 @@ const EVENT: &[u8] = b"\nO|LO|lo\nA|k_k_k_up_v_v_0\n";
 
 /// What compiling a first line gives on both sides: the number, and the arguments at exit.
 fn compiled(comparison: &mut Comparison, first: &[u8]) -> (u64, Arguments) {
-    let sheet = [first, EVENT].concat();
-    let arguments = Arguments::compiling(&sheet, vec![7; TABLE_LENGTH]);
-    let (number, after) = comparison.run(&COMPILE, &arguments);
-    assert!(number == 0 || after == arguments, "{first:?}");
-    (number, after)
+    comparison.compile(&[first, EVENT].concat())
 }
 
 /// The same of a seventh value.
@@ -216,41 +209,15 @@ fn of_all_faults_the_first_is_told() {
     }
 }
 
-/// A book of two bars by a table, with room for a row.
-fn with_book(comparison: &mut Comparison) -> Arguments {
-    let (_, mut arguments) = compiled(comparison, FIRST);
-    arguments.book = vec![0; book_length(4)];
-    arguments.image = vec![0; book_length(4)];
-    arguments.buffer = vec![7; PAIR_ROW_LIMIT];
-    arguments = comparison.run(&FRESH, &arguments).1;
-    for (id, signals) in [(1, "k_k_k|up_v_v_0\n"), (2, "")] {
-        arguments.id = id;
-        arguments.instant = id * 86_400_000_000;
-        arguments.price = f64::to_bits(3.0 - id as f64);
-        arguments.text = signals.as_bytes().to_vec();
-        let (number, after) = comparison.run(&FEED, &arguments);
-        assert_eq!(number, 0);
-        arguments = after;
-    }
-    arguments.instant += 1;
-    arguments.line = b"3,1970-02-01 00:00:00+00:00,1".to_vec();
-    arguments = comparison.run(&SAVE, &arguments).1;
-    arguments
-}
-
 #[test]
 fn all_calls_take_or_refuse_a_table_by_its_halves() {
     let mut comparison = Comparison::default();
-    let book = with_book(&mut comparison);
+    let (_, table) = compiled(&mut comparison, FIRST);
+    let book = comparison.two_bars(table, "k_k_k|up_v_v_0\n");
     for (halves, is_table) in HALVES {
         let mut arguments = book.clone();
         set_halves(&mut arguments.table, halves);
-        for call in table_calls() {
-            let (number, after) = comparison.run(call, &arguments);
-            let expected = if is_table { 0 } else { 9 };
-            assert_eq!(number, expected, "{}, {halves:?}", call.name);
-            assert!(is_table || after == arguments, "{}, {halves:?}", call.name);
-        }
+        comparison.all_judge(&arguments, is_table, &format!("{halves:?}"));
     }
 }
 

@@ -1,12 +1,8 @@
 //! Lots at the boundaries of document 02, W4, on both sides: an O line's third value with what it says, the order of
 //! refusals around it, and the kinds of events in a table. `lots_kept` has what a book keeps of them.
 
-use super::{
-    Arguments, COMPILE, Comparison, EVENT_NAME, FEED, FRESH, SAVE, every_byte_at_every_place,
-    table_calls,
-};
+use super::{Arguments, Comparison, EVENT_NAME, every_byte_at_every_place};
 use inputs::{EVENT_LIMIT, NAME_LIMIT};
-use position_book::raw::{PAIR_ROW_LIMIT, TABLE_LENGTH, book_length};
 
 /// Third values that are read, and of each the lots.
 const READ: [(&str, u16); 16] = [
@@ -86,11 +82,7 @@ const KINDS: [usize; 2] = [80, 92];
 
 /// What compiling a sheet of these events gives on both sides: the number, and the arguments at exit.
 fn compiled(comparison: &mut Comparison, events: &[u8]) -> (u64, Arguments) {
-    let sheet = [FIRST.as_bytes(), events].concat();
-    let arguments = Arguments::compiling(&sheet, vec![7; TABLE_LENGTH]);
-    let (number, after) = comparison.run(&COMPILE, &arguments);
-    assert!(number == 0 || after == arguments, "{events:?}");
-    (number, after)
+    comparison.compile(&[FIRST.as_bytes(), events].concat())
 }
 
 /// The same of an opening with a third value.
@@ -219,26 +211,11 @@ fn of_all_faults_the_first_is_told() {
     }
 }
 
-/// A book of two bars by a table with an opening and an exit, with room for a row.
+/// A book of two bars by a table with an opening and an exit.
 fn with_book(comparison: &mut Comparison) -> Arguments {
     let events = format!("O|LO|lo|5{CLAUSE}X|LE|le{CLAUSE}");
-    let (_, mut arguments) = compiled(comparison, events.as_bytes());
-    arguments.book = vec![0; book_length(4)];
-    arguments.image = vec![0; book_length(4)];
-    arguments.buffer = vec![7; PAIR_ROW_LIMIT];
-    arguments = comparison.run(&FRESH, &arguments).1;
-    for (id, signals) in [(1, "k_k_k|up_v_v_0\n"), (2, "")] {
-        arguments.id = id;
-        arguments.instant = id * 86_400_000_000;
-        arguments.price = f64::to_bits(3.0 - id as f64);
-        arguments.text = signals.as_bytes().to_vec();
-        let (number, after) = comparison.run(&FEED, &arguments);
-        assert_eq!(number, 0);
-        arguments = after;
-    }
-    arguments.instant += 1;
-    arguments.line = b"3,1970-02-01 00:00:00+00:00,1".to_vec();
-    comparison.run(&SAVE, &arguments).1
+    let (_, table) = compiled(comparison, events.as_bytes());
+    comparison.two_bars(table, "k_k_k|up_v_v_0\n")
 }
 
 /// Whether an event may have a kind: an exit 1 lot, an opening 1 to 1,000.
@@ -259,12 +236,7 @@ fn all_calls_take_or_refuse_a_table_by_its_kinds() {
     {
         let mut arguments = book.clone();
         set_kind(&mut arguments.table, at, kind);
-        let expected = if is_kind(kind) { 0 } else { 9 };
-        for call in table_calls() {
-            let (number, after) = comparison.run(call, &arguments);
-            assert_eq!(number, expected, "{}, {kind} at {at}", call.name);
-            assert!(number == 0 || after == arguments, "{}, {kind}", call.name);
-        }
+        comparison.all_judge(&arguments, is_kind(kind), &format!("{kind} at {at}"));
     }
 }
 

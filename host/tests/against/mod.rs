@@ -8,6 +8,7 @@ mod lots;
 mod lots_kept;
 pub mod numbers;
 pub mod round;
+mod scores;
 mod stops;
 pub mod tables;
 pub mod texts;
@@ -258,6 +259,45 @@ impl Comparison {
             self.decisions[answer[3] as usize] += 1;
         }
         (answer[0], ours)
+    }
+
+    /// What compiling a sheet gives: the number, and the arguments at exit, which are as they were where it is refused.
+    pub fn compile(&mut self, sheet: &[u8]) -> (u64, Arguments) {
+        let arguments = Arguments::compiling(sheet, vec![7; raw::TABLE_LENGTH]);
+        let (number, after) = self.run(&COMPILE, &arguments);
+        assert!(number == 0 || after == arguments, "{sheet:?}");
+        (number, after)
+    }
+
+    /// A compiled table with a saved book of two bars by it, each on its own day, the first with these signals; and what else a call takes.
+    pub fn two_bars(&mut self, compiled: Arguments, signals: &str) -> Arguments {
+        let mut arguments = compiled;
+        arguments.book = vec![0; raw::book_length(4)];
+        arguments.image = vec![0; raw::book_length(4)];
+        arguments.buffer = vec![7; raw::PAIR_ROW_LIMIT];
+        arguments = self.run(&FRESH, &arguments).1;
+        for (id, signals) in [(1, signals), (2, "")] {
+            arguments.id = id;
+            arguments.instant = id * 86_400_000_000;
+            arguments.price = f64::to_bits(3.0 - id as f64);
+            arguments.text = signals.as_bytes().to_vec();
+            let (number, after) = self.run(&FEED, &arguments);
+            assert_eq!(number, 0);
+            arguments = after;
+        }
+        arguments.instant += 1;
+        arguments.line = b"3,1970-02-01 00:00:00+00:00,1".to_vec();
+        self.run(&SAVE, &arguments).1
+    }
+
+    /// Makes each call that takes a table: 0, or 9 with nothing changed where it is none.
+    pub fn all_judge(&mut self, arguments: &Arguments, is_table: bool, what: &str) {
+        for call in table_calls() {
+            let (number, after) = self.run(call, arguments);
+            let expected = if is_table { 0 } else { 9 };
+            assert_eq!(number, expected, "{}, {what}", call.name);
+            assert!(is_table || after == *arguments, "{}, {what}", call.name);
+        }
     }
 
     fn tell(

@@ -21,7 +21,7 @@ struct Round<'a> {
 pub fn round(comparison: &mut Comparison, seed: u64) {
     comparison.seed = seed;
     let mut rng = Rng::new(seed);
-    let season = inputs::evening_season(&mut rng);
+    let season = inputs::full_season(&mut rng);
     let text = season.sheet.text().into_bytes();
     let table = buffer(&mut rng, TABLE_LENGTH);
     let by_line = rng.once_in(3);

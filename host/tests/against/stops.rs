@@ -1,8 +1,8 @@
 //! Stops finer than a basis point at the boundaries of document 02, W2, on both sides: a fixed list of stop fields with
 //! what they say and how they are shown, every byte at every place of one, and losses at a stop and beside it.
 
-use super::{Arguments, COMPILE, Comparison, FEED, FRESH, PAIR_ROW, every_byte_at_every_place};
-use position_book::raw::{ROW_BUFFER, TABLE_LENGTH, book_length};
+use super::{Arguments, Comparison, FEED, FRESH, PAIR_ROW, every_byte_at_every_place};
+use position_book::raw::{ROW_BUFFER, book_length};
 
 /// Stop fields that are read, and of each the hundredths and the text that a sequence shows.
 const READ: &str = "\
@@ -112,11 +112,7 @@ const LOSSES: [(bool, &str, f64, f64, bool); 14] = [
 /// What compiling gives on both sides for a stop field: the number, and the arguments at exit.
 fn compiled(comparison: &mut Comparison, field: &[u8]) -> (u64, Arguments) {
     let events = b"|1\nO|LO|o\nA|k_k_k_up_v_v_0\nO|SO|o\nA|k_k_k_down_v_v_0\n";
-    let sheet = [b"P|n|s|0|9|", field, events].concat();
-    let arguments = Arguments::compiling(&sheet, vec![7; TABLE_LENGTH]);
-    let (number, after) = comparison.run(&COMPILE, &arguments);
-    assert!(number == 0 || after == arguments, "{field:?}");
-    (number, after)
+    comparison.compile(&[b"P|n|s|0|9|", field, events].concat())
 }
 
 /// The stop in a table, in hundredths.

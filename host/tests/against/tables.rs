@@ -127,7 +127,7 @@ fn row_fault(rng: &mut Rng, table: &mut [u8]) {
         0 => now.wrapping_add(1),
         1 => now.wrapping_sub(1),
         2 => u16::from_le_bytes([table[other], table[other + 1]]),
-        _ => *rng.pick(&[0, 1, 2, 3, 6, 7, 100, 101, 256, 257, 65_534, 65_535]),
+        _ => *rng.pick(&[0, 1, 2, 3, 6, 7, 256, 257, 1_000, 1_001, 65_534, 65_535]),
     };
     table[own..own + 2].copy_from_slice(&number.to_le_bytes());
 }
@@ -333,7 +333,7 @@ fn numbered_clause(rng: &mut Rng, number: usize) -> Clause {
     let signal = Signal {
         key: format!("k{number}"),
         values: [1, 2, 3].map(|v| format!("v{number}{v}")),
-        score: 100,
+        score: 1_000,
     };
     let kind = *rng.pick(&[Kind::All, Kind::Any, Kind::Not]);
     Clause { kind, signal }
@@ -363,6 +363,6 @@ fn signal_fault(rng: &mut Rng, sheet: &mut Sheet) {
     match rng.below(3) {
         0 => signal.key = rng.pick(&keys).to_string(),
         1 => signal.values[rng.below(3)] = rng.pick(&values).to_string(),
-        _ => signal.score = *rng.pick(&[0, 100, 101, 65_535]),
+        _ => signal.score = *rng.pick(&[0, 100, 101, 256, 999, 1_000, 1_001, 1_256, 65_535]),
     }
 }

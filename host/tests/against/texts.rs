@@ -3,7 +3,7 @@
 use inputs::{LINE_LIMIT, NAME_LIMIT, Rng, TEXT_LIMIT};
 
 /// Fields that are wrong somewhere, or right at a limit.
-const FIELDS: [&str; 26] = [
+const FIELDS: [&str; 27] = [
     "",
     "0",
     "1",
@@ -26,8 +26,9 @@ const FIELDS: [&str; 26] = [
     "lo",
     "持多",
     "HX",
-    "a_b_c_d_e_f_100",
     "a_b_c_d_e_f_101",
+    "a_b_c_d_e_f_1000",
+    "a_b_c_d_e_f_1001",
     "a_b_c_d_e_f",
     "a_b_c_d_e_f_-0",
 ];
@@ -139,9 +140,40 @@ const LOTS: [&str; 29] = [
     "5|5",
 ];
 
+/// Scores of a clause (document 02, W8): both sides of their range and of the Rust's, what 16 or 32 bits would make right again, and each kind
+/// that is none.
+const SCORES: [&str; 26] = [
+    "0",
+    "-0",
+    "100",
+    "101",
+    "255",
+    "256",
+    "999",
+    "1000",
+    "+1000",
+    "00000000000000000001000",
+    "1001",
+    "+1001",
+    "1256",
+    "-1",
+    "-1000",
+    "65536",
+    "66536",
+    "2147483647",
+    "2147483648",
+    "4294968296",
+    "",
+    "+",
+    "1,000",
+    "1000.0",
+    "１０００",
+    "1000\r",
+];
+
 /// A copy of a text with a fault in its bytes, its fields, its lines or its length.
 pub fn fault(rng: &mut Rng, text: &[u8]) -> Vec<u8> {
-    match rng.below(11) {
+    match rng.below(12) {
         0 => (0..rng.below(80)).map(|_| rng.bits() as u8).collect(),
         1 => long(rng, text),
         2 => crowd(rng, text),
@@ -150,6 +182,7 @@ pub fn fault(rng: &mut Rng, text: &[u8]) -> Vec<u8> {
         6 if text.starts_with(b"P|") => stop_fault(rng, text),
         7 if text.starts_with(b"P|") => evening_fault(rng, text),
         8 if text.starts_with(b"P|") => lots_fault(rng, text),
+        9 => score_fault(rng, text),
         _ => inputs::damage(rng, text),
     }
 }
@@ -267,6 +300,21 @@ fn lots_fault(rng: &mut Rng, text: &[u8]) -> Vec<u8> {
         _ => {}
     }
     *line = [fields.join(&b'|'), b"\n".to_vec()].concat();
+    lines.concat()
+}
+
+/// A text in which one line ends with another score: behind the last underscore of a clause of a sheet, of a bar's value or of a signal alone.
+fn score_fault(rng: &mut Rng, text: &[u8]) -> Vec<u8> {
+    let mut lines = lines(text);
+    let has_score = |line: &Vec<u8>| line.contains(&b'_');
+    let scored: Vec<usize> = (0..lines.len()).filter(|n| has_score(&lines[*n])).collect();
+    if scored.is_empty() {
+        return [text, b"A|a_b_c_d_e_f_", rng.pick(&SCORES).as_bytes(), b"\n"].concat();
+    }
+    let line = &mut lines[*rng.pick(&scored)];
+    let ending: &[u8] = if line.ends_with(b"\n") { b"\n" } else { b"" };
+    let place = line.iter().rposition(|byte| *byte == b'_').unwrap();
+    *line = [&line[..=place], rng.pick(&SCORES).as_bytes(), ending].concat();
     lines.concat()
 }
 

@@ -1,5 +1,5 @@
 //! Document 01, "Texts": lines and fields, signals, operates, the position sheet; its stop by document 02, W2, its
-//! evening by W3, its lots by W4.
+//! evening by W3, its lots by W4, its scores by W8.
 
 use super::{Answer, number, put, require};
 use position_book::raw::{NameAnswer, OperateAnswer, SignalAnswer};
@@ -15,7 +15,7 @@ pub const STOP_LIMIT: u32 = 100_000_000;
 /// In minutes.
 pub const EVENING_LIMIT: u16 = 1_439;
 pub const LOTS_LIMIT: u16 = 1_000;
-pub const SCORE_LIMIT: i32 = 100;
+pub const SCORE_LIMIT: i32 = 1_000;
 pub const WILDCARD: &str = "任意";
 
 /// Both spellings of each operate, by its code.

@@ -1,0 +1,2 @@
+-- What a table was in the landings before.
+pub mod Older
