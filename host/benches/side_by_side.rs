@@ -3,17 +3,13 @@
 //!     side_by_side feed                            a feed, by the size of the sheet and the number of signals
 //!     side_by_side book                            compiling; a book of 1,000,000 bars: feeds as it grows, save, restore, all rows
 //!     side_by_side program BIN                     whole runs of the run program BIN
-//!     side_by_side revise                          900 bars as one list with revisions, against as many feeds
-//!     side_by_side count WHO SIZE SIGNALS BARS     only feeds, of `ours`, `line`, `list`, `text` or `map`, within the
-//!                                                  function `measured`; `line` is ours by the exchange's lines, `list`
-//!                                                  all bars as one list with revisions
+//!     side_by_side count WHO SIZE SIGNALS BARS     only feeds, of `ours`, `line`, `text` or `map`, within the function
+//!                                                  `measured`; `line` is ours by the exchange's lines
 //!
 //! The Rust is given the same lines, of which it makes its map (`text`); and, beside it, its map for nothing (`map`).
 //! `host/benches/run` builds and runs it, and counts instructions.
 
 mod market;
-mod program;
-mod revised;
 
 use differential::theirs::{lite_bar, position};
 use inputs::Bar;
@@ -22,6 +18,8 @@ use position_book::{Book, Table, raw};
 use reference::objects::position::{LiteBar, Pos, Position};
 use std::collections::HashMap;
 use std::hint::black_box;
+use std::io::Write;
+use std::process::{Command, Stdio};
 use std::time::Instant;
 
 type Map = HashMap<String, String>;
@@ -41,7 +39,6 @@ struct Fed {
 enum Who {
     Ours,
     Line,
-    List,
     Text,
     Map,
 }
@@ -52,13 +49,10 @@ fn main() {
     match words[..] {
         ["feed"] => feeds(),
         ["book"] => book(),
-        ["program", bin] => program::runs(bin),
-        ["revise"] => revised::lists(),
+        ["program", bin] => program(bin),
         ["count", who, size, signals, bars] => count(who, size, signals, bars),
         _ => {
-            eprintln!(
-                "side_by_side feed | book | program BIN | revise | count WHO SIZE SIGNALS BARS"
-            );
+            eprintln!("side_by_side feed | book | program BIN | count WHO SIZE SIGNALS BARS");
             std::process::exit(2);
         }
     }
@@ -86,12 +80,11 @@ fn comma_line(bar: &Bar) -> String {
     )
 }
 
-/// Both sides of a book, empty, and the table; the bars as one list, where that is measured.
+/// Both sides of a book, empty, and the table.
 struct Sides {
     table: Vec<u8>,
     book: Vec<u8>,
     position: Position,
-    list: String,
 }
 
 impl Sides {
@@ -105,19 +98,17 @@ impl Sides {
             table,
             book,
             position: position(&sheet).expect("the Rust reads the sheet"),
-            list: String::new(),
         }
     }
 }
 
-/// Feeds bars to one side: the sum of the positions after each, so that both can be seen to do the same (of a list 0).
+/// Feeds bars to one side: the sum of the positions after each, so that both can be seen to do the same.
 #[unsafe(no_mangle)]
 #[inline(never)]
 fn measured(who: Who, sides: &mut Sides, bars: &[Fed]) -> i64 {
     match who {
         Who::Ours => bars.iter().map(|fed| feed_ours(sides, fed)).sum(),
         Who::Line => bars.iter().map(|fed| feed_line(sides, fed)).sum(),
-        Who::List => revised::revise(sides),
         Who::Text => bars
             .iter()
             .map(|fed| feed_rust(&mut sides.position, fed.lite, &map_of(&fed.lines)))
@@ -231,7 +222,6 @@ fn count(who: &str, size: &str, signals: &str, bars: &str) {
     let who = match who {
         "ours" => Who::Ours,
         "line" => Who::Line,
-        "list" => Who::List,
         "text" => Who::Text,
         _ => Who::Map,
     };
@@ -244,7 +234,6 @@ fn count(who: &str, size: &str, signals: &str, bars: &str) {
         signals.parse().expect("so many signals"),
     );
     let mut sides = Sides::new(size, bars.len());
-    sides.list = revised::list(bars.iter().map(|fed| &fed.bar));
     println!("{}", measured(who, &mut sides, &bars));
 }
 
@@ -396,4 +385,40 @@ fn all_rows(sides: &Sides) {
         },
         || drop(black_box(sides.position.holds().expect("its holds"))),
     );
+}
+
+/// Whole runs of the run program, its start and the pipes to and from it included.
+fn program(bin: &str) {
+    println!("| input | bytes | printed | ms |");
+    println!("|---|---|---|---|");
+    for bars in [20, 600] {
+        let sheet = sheet(SIZES[0]).text();
+        let lines: String = season(bars, 1).iter().map(Bar::lines).collect();
+        let input = format!("{sheet}-\n{lines}");
+        let mut printed = 0;
+        let mut times = Vec::new();
+        for _ in 0..40 {
+            let (ns, n) = timed(|| run_once(bin, input.as_bytes()));
+            times.push(ns / 1e6);
+            printed = n;
+        }
+        let (best, median) = least_and_median(times);
+        println!(
+            "| the small sheet, {bars} bars with a signal each | {} | {printed} | {best:.2} ({median:.2}) |",
+            input.len()
+        );
+    }
+}
+
+/// Runs the program over an input: how many bytes it prints.
+fn run_once(bin: &str, input: &[u8]) -> usize {
+    let mut child = Command::new(bin)
+        .stdin(Stdio::piped())
+        .stdout(Stdio::piped())
+        .spawn()
+        .expect("the run program starts");
+    let mut stdin = child.stdin.take().expect("its input is a pipe");
+    stdin.write_all(input).expect("it reads its input");
+    drop(stdin);
+    child.wait_with_output().expect("it ends").stdout.len()
 }

@@ -1,6 +1,5 @@
-/* A season through the C calls: compiles a sheet, feeds two bars, saves, restores, makes the same book of a list with
-   revisions, and prints what the run program prints for document 01's case *1. tests/c_program.rs compiles it, runs it, and
-   compares what it prints. */
+/* A season through the C calls: compiles a sheet, feeds two bars, saves, restores, and prints what the run program prints for document 01's
+   case *1. tests/c_program.rs compiles it, runs it, and compares what it prints. */
 #include "position_book.h"
 
 #include <inttypes.h>
@@ -48,19 +47,6 @@ static void feed(int64_t id, int64_t instant, double price, const char *signals)
     printf("F|%" PRIu32 "|%" PRId32 "|%" PRIu32 "\n", a.number, a.pos, a.changed);
 }
 
-/* Makes a book of the same bars as a list in any order, the second of them revised: every byte is the fed book's. */
-static void revise(void)
-{
-    const char *list = "B|2|86400000000|0|405f400000000000|1\nS|d1_u_w|down_a_b_5\n"
-                       "B|2|86400000000|0|4059000000000000|0\n"
-                       "B|1|0|0|4059000000000000|0\nS|d1_u_w|up_a_b_10\n";
-    done("revise", position_book_revise(table, sizeof table, image, sizeof image, (const uint8_t *)list, strlen(list)));
-    if (memcmp(book, image, sizeof book) != 0) {
-        fprintf(stderr, "revise: not the book of the bars\n");
-        exit(1);
-    }
-}
-
 /* Prints every pair row. */
 static void print_pairs(void)
 {
@@ -106,7 +92,6 @@ int main(void)
     done("fresh", position_book_fresh(book, sizeof book));
     done("restore", position_book_restore(table, sizeof table, book, sizeof book, image, sizeof image));
     feed(2, 86400000000, 125.0, "d1_u_w|down_a_b_5\n");
-    revise();
     print_pairs();
     print_holds();
     return 0;

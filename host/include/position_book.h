@@ -1,7 +1,6 @@
 /* The exported calls of libposition_book.a, for C. A call asks one thing of its caller: room on the stack, of
-   POSITION_BOOK_COMPILE_STACK bytes (compile), POSITION_BOOK_REVISE_STACK (revise) or POSITION_BOOK_CALL_STACK (every
-   other). Beside that nothing: whatever the bytes and numbers are, it ends within its buffers with the documents' number
-   (0: done), and a refusal changes no byte.
+   POSITION_BOOK_COMPILE_STACK bytes (compile) or POSITION_BOOK_CALL_STACK (every other). Beside that nothing: whatever the
+   bytes and numbers are, it ends within its buffers with the documents' number (0: done), and a refusal changes no byte.
    Buffers that one call is lent must not overlap.
    tests/declarations.rs holds these declarations to the exported signatures, tests/stack.rs the figures to the archive. */
 #ifndef POSITION_BOOK_H
@@ -20,12 +19,8 @@ extern "C" {
 #define POSITION_BOOK_NAME_LIMIT 256
 #define POSITION_BOOK_LENGTH(c) (96 + 64 * (size_t)(c))
 
-/* The most bars of a list with revisions. */
-#define POSITION_BOOK_LIST_LIMIT 900
-
-/* The bytes of the stack that compile needs, those that revise needs, and those that any other call needs. */
+/* The bytes of the stack that compile needs, and those that any other call needs. */
 #define POSITION_BOOK_COMPILE_STACK 65536
-#define POSITION_BOOK_REVISE_STACK 65536
 #define POSITION_BOOK_CALL_STACK 16384
 
 /* The length of a name. */
@@ -121,12 +116,6 @@ uint32_t position_book_save(const uint8_t *table, size_t table_length, const uin
 
 /* Copies the image back to the book. */
 uint32_t position_book_restore(const uint8_t *table, size_t table_length, uint8_t *book, size_t book_length, const uint8_t *image, size_t image_length);
-
-/* Makes the book that of a list of at most 900 bars, whatever its bytes were: of each instant the bar with the highest
-   revision, in rising instant; exact repeats count as one. A bar is a line B|id|instant|offset|price|revision, the price by
-   the 16 hexadecimal digits of its bits, and behind it a line S|key|value for each of its signals. 14 where the book has
-   fewer places than the list has instants, 19 where two entries of the same instant and revision differ. */
-uint32_t position_book_revise(const uint8_t *table, size_t table_length, uint8_t *book, size_t book_length, const uint8_t *text, size_t text_length);
 
 /* A pair row of the book by its index; its symbol, mark and sequence go one after another to the start of the buffer, which
    must have 2,048 bytes or more. */

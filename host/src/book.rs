@@ -1,4 +1,4 @@
-//! A book: bars go in, positions come out; it can be saved and restored, or made anew of revised bars.
+//! A book: bars go in, positions come out; it can be saved and restored.
 
 use crate::raw;
 use crate::refusal::{Refusal, done};
@@ -111,39 +111,6 @@ impl Book {
         Ok(book)
     }
 
-    /// The book of a list of bars with their revisions, with room for so many bars: `revise` on a new book.
-    ///
-    /// ```
-    /// use position_book::{Book, Pos, Refusal, Table};
-    /// let table = Table::compile("P|soy|M1|0|5|100|0\nO|LO|go\nA|d1_u_w_up_任意_任意_10\n")?;
-    /// let first = "B|1|0|0|4059000000000000|0\n";
-    /// let later = "B|1|0|0|4059400000000000|1\nS|d1_u_w|up_a_b_10\n";
-    /// let book = Book::from_revised(&table, 10, [later, first].concat())?;
-    /// assert_eq!((book.pos(), book.len()), (Pos::Long, 1));
-    /// assert_eq!(book.holds(&table)?.next().unwrap().price, 101.0);
-    /// let other = "B|1|0|0|4059800000000000|0\n";
-    /// let both = Book::from_revised(&table, 10, [later, first, other].concat());
-    /// assert_eq!(both, Err(Refusal::Conflict));
-    /// # Ok::<(), Refusal>(())
-    /// ```
-    pub fn from_revised(
-        table: &Table,
-        capacity: usize,
-        text: impl AsRef<[u8]>,
-    ) -> Result<Book, Refusal> {
-        // More than any book has room for: no length, which the call refuses behind a list that is too long.
-        let length = if capacity > MOST_BARS {
-            0
-        } else {
-            raw::book_length(capacity)
-        };
-        let mut book = Book {
-            bytes: vec![0; length],
-        };
-        book.revise(table, text)?;
-        Ok(book)
-    }
-
     /// Feeds a bar with its signals, `key|value` lines (`signal_lines` makes them of a map). A refused bar leaves the
     /// book as it was.
     ///
@@ -224,19 +191,6 @@ impl Book {
     /// refused and leaves the book as it was.
     pub fn restore(&mut self, table: &Table, image: &[u8]) -> Result<(), Refusal> {
         done(raw::restore(table.as_bytes(), &mut self.bytes, image))
-    }
-
-    /// Makes the book that of a list of at most 900 bars, whatever bars it held: of each instant the one with the highest
-    /// revision counts, in rising instant, and exact repeats count as one. A bar is a line
-    /// `B|id|instant|offset|price|revision`, the price by the 16 hexadecimal digits of its bits, and behind it a line
-    /// `S|key|value` for each of its signals; the bars come in any order. A list that is refused leaves the book as it
-    /// was. It needs [`raw::REVISE_STACK`] bytes of the stack.
-    pub fn revise(&mut self, table: &Table, text: impl AsRef<[u8]>) -> Result<(), Refusal> {
-        done(raw::revise(
-            table.as_bytes(),
-            &mut self.bytes,
-            text.as_ref(),
-        ))
     }
 
     /// The trade pairs, in their order.

@@ -2,11 +2,10 @@
 //!
 //! A sheet is compiled to a [`Table`]; a [`Book`] is fed bars with their signals, as numbers or as lines of the
 //! exchange's comma file, says after each bar whether the member is long, flat or short and what decided it, keeps every
-//! trade pair and every hold's yield, and can be saved and restored, or made anew of bars that the exchange revised. The
-//! work is done by the static library `position_book`, every function of which is proved to meet its contract; this crate
-//! lends it slices and turns its numbers into Rust's results. [`raw`] has the calls as they are. They need room on the
-//! stack: [`raw::COMPILE_STACK`] bytes to compile a sheet, [`raw::REVISE_STACK`] to take revised bars,
-//! [`raw::CALL_STACK`] for all else.
+//! trade pair and every hold's yield, and can be saved and restored. The work is done by the static library
+//! `position_book`, every function of which is proved to meet its contract; this crate lends it slices and turns its
+//! numbers into Rust's results. [`raw`] has the calls as they are. They need room on the stack: [`raw::COMPILE_STACK`]
+//! bytes to compile a sheet, [`raw::CALL_STACK`] for all else.
 //!
 //! ```
 //! use position_book::{Bar, Book, Instant, Pos, Refusal, Table, signal_lines};
@@ -26,11 +25,6 @@
 //! let mut again = Book::from_image(&table, &image)?;
 //! assert_eq!(again.holds(&table)?.map(|hold| hold.price).collect::<Vec<_>>(), [100.0, 125.0]);
 //! assert_eq!(again.feed_line(&table, "8,1970-01-02 00:00:00+00:00,130.5", ""), Err(Refusal::NotLater));
-//!
-//! // The exchange revised the first bar: of each instant the highest revision counts.
-//! let list = "B|1|0|0|4059000000000000|0\nB|7|86400000000|0|405f400000000000|0\nB|1|0|0|4059400000000000|1\n";
-//! let revised = Book::from_revised(&table, 900, list)?;
-//! assert_eq!(revised.holds(&table)?.map(|hold| hold.price).collect::<Vec<_>>(), [101.0, 125.0]);
 //! # Ok::<(), Refusal>(())
 //! ```
 

@@ -1,16 +1,8 @@
 //! The exported calls as they are: numbers and byte slices in, the documents' number and values out.
 //!
 //! Each function is safe, because no call asks anything of its caller but room on the stack ([`COMPILE_STACK`],
-//! [`REVISE_STACK`], [`CALL_STACK`]): whatever the bytes and numbers are, it ends within its buffers, and a refusal
-//! changes no byte.
+//! [`CALL_STACK`]): whatever the bytes and numbers are, it ends within its buffers, and a refusal changes no byte.
 //! `include/position_book.h` declares the same calls for C.
-
-mod answers;
-
-pub use answers::{
-    BlockAnswer, CountsAnswer, FeedAnswer, HoldAnswer, NameAnswer, OperateAnswer, PairAnswer,
-    SignalAnswer,
-};
 
 /// The bytes of a table.
 pub const TABLE_LENGTH: usize = 32_768;
@@ -27,15 +19,9 @@ pub const PAIR_ROW_LIMIT: usize = 96 + ROW_BUFFER;
 /// The most bytes of an event's name.
 pub const NAME_LIMIT: usize = 256;
 
-/// The most bars of a list that [`revise`] takes.
-pub const LIST_LIMIT: usize = 900;
-
 /// The bytes of the stack that [`compile`] needs. A thread that has less left when it calls ends the process, as in any
 /// Rust function that finds no stack. `tests/stack.rs` reads from the archive what a call uses.
 pub const COMPILE_STACK: usize = 65_536;
-
-/// The bytes of the stack that [`revise`] needs.
-pub const REVISE_STACK: usize = 65_536;
 
 /// The bytes of the stack that every other call needs.
 pub const CALL_STACK: usize = 16_384;
@@ -43,6 +29,97 @@ pub const CALL_STACK: usize = 16_384;
 /// The bytes of a book for so many bars.
 pub const fn book_length(capacity: usize) -> usize {
     96 + 64 * capacity
+}
+
+/// The length of a name.
+#[repr(C)]
+#[derive(Clone, Copy, Debug, PartialEq)]
+pub struct NameAnswer {
+    pub number: u32,
+    pub length: usize,
+}
+
+/// What a feed says: the position after the bar (-1, 0 or 1), whether it changed, and what decided the bar: 0 nothing, 1 an event, 2 the
+/// stop, 3 the timeout; the event's index where it is 1.
+#[repr(C)]
+#[derive(Clone, Copy, Debug, PartialEq)]
+pub struct FeedAnswer {
+    pub number: u32,
+    pub pos: i32,
+    pub changed: u32,
+    pub decision: u32,
+    pub event: u32,
+}
+
+/// A pair row: 1 for L or -1 for S, both local times, both prices, the id difference, days, the yield where it is present, the
+/// lengths of symbol, mark and sequence, and the lots that were opened.
+#[repr(C)]
+#[derive(Clone, Copy, Debug, PartialEq)]
+pub struct PairAnswer {
+    pub number: u32,
+    pub side: i32,
+    pub opened: i64,
+    pub closed: i64,
+    pub from: f64,
+    pub to: f64,
+    pub ids: i64,
+    pub days: f64,
+    pub present: u32,
+    pub bp: f64,
+    pub symbol: usize,
+    pub mark: usize,
+    pub sequence: usize,
+    pub lots: u32,
+}
+
+/// A hold row: its local time, -1, 0 or 1, its price, and the yield where it is present.
+#[repr(C)]
+#[derive(Clone, Copy, Debug, PartialEq)]
+pub struct HoldAnswer {
+    pub number: u32,
+    pub local: i64,
+    pub pos: i32,
+    pub price: f64,
+    pub present: u32,
+    pub bp: f64,
+}
+
+/// A block of rows: how many, and the length of their bytes.
+#[repr(C)]
+#[derive(Clone, Copy, Debug, PartialEq)]
+pub struct BlockAnswer {
+    pub number: u32,
+    pub rows: usize,
+    pub length: usize,
+}
+
+/// How many rows a book has.
+#[repr(C)]
+#[derive(Clone, Copy, Debug, PartialEq)]
+pub struct CountsAnswer {
+    pub number: u32,
+    pub holds: usize,
+    pub pairs: usize,
+}
+
+/// What a signal alone says: its score, and the lengths of its key and its three values.
+#[repr(C)]
+#[derive(Clone, Copy, Debug, PartialEq)]
+pub struct SignalAnswer {
+    pub number: u32,
+    pub score: u64,
+    pub key: usize,
+    pub v1: usize,
+    pub v2: usize,
+    pub v3: usize,
+}
+
+/// The code of an operate alone.
+#[repr(C)]
+#[derive(Clone, Copy, Debug, PartialEq)]
+pub struct OperateAnswer {
+    pub number: u32,
+    pub code: u32,
 }
 
 // The declarations. A byte slice crosses as a pointer and a length. `tests/declarations.rs` holds them to the exported signatures.
@@ -94,14 +171,6 @@ mod calls {
             book_length: usize,
             image: *const u8,
             image_length: usize,
-        ) -> u32;
-        pub fn position_book_revise(
-            table: *const u8,
-            table_length: usize,
-            book: *mut u8,
-            book_length: usize,
-            text: *const u8,
-            text_length: usize,
         ) -> u32;
         pub fn position_book_pair_row(
             table: *const u8,
@@ -243,22 +312,6 @@ pub fn restore(table: &[u8], book: &mut [u8], image: &[u8]) -> u32 {
             book.len(),
             image.as_ptr(),
             image.len(),
-        )
-    }
-}
-
-/// Makes the book that of a list of at most [`LIST_LIMIT`] bars, whatever its bytes were: of each instant the bar with
-/// the highest revision, in rising instant. A bar is a line `B|id|instant|offset|price|revision`, the price by the 16
-/// hexadecimal digits of its bits, and a line `S|key|value` for each of its signals.
-pub fn revise(table: &[u8], book: &mut [u8], text: &[u8]) -> u32 {
-    unsafe {
-        calls::position_book_revise(
-            table.as_ptr(),
-            table.len(),
-            book.as_mut_ptr(),
-            book.len(),
-            text.as_ptr(),
-            text.len(),
         )
     }
 }

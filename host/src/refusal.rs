@@ -49,16 +49,15 @@ refusals! {
     11 BarOutOfRange: "a field of the bar is outside its range",
     12 KeyTwice: "a key stands twice among the bar's signals",
     13 NotLater: "the bar is not later than the one before it",
-    14 Full: "the book has no room for another bar, or for those of a list",
+    14 Full: "the book has no room for another bar",
     15 NoSuchRow: "there is no row with this index",
     16 WrongLine: "a line of the exchange's file departs from its form, or names no real day or time",
     17 LongPrice: "a price has more than 15 digits, or more than six after the point",
     18 WrongLots: "lots are outside 1..1,000",
-    19 Conflict: "two entries of the same instant and revision differ",
 }
 
 impl Refusal {
-    /// The number that the documents give it, 1 to 19, or the one that this host does not know.
+    /// The number that the documents give it, 1 to 18, or the one that this host does not know.
     ///
     /// ```
     /// use position_book::{Refusal, Table};
@@ -114,7 +113,7 @@ mod tests {
             assert_eq!(Refusal::from_number(number).unwrap().number(), number);
         }
         assert_eq!(Refusal::from_number(0), None);
-        assert_eq!(Refusal::from_number(19), Some(Refusal::Conflict));
+        assert_eq!(Refusal::from_number(18), Some(Refusal::WrongLots));
     }
 
     #[test]

@@ -7,8 +7,7 @@ mod model;
 
 use against::round::round;
 use against::{
-    Arguments, CALLS, COMPILE, Call, Comparison, FEED, FEED_LINE, FRESH, HOLD_ROW, RESTORE, REVISE,
-    SAVE,
+    Arguments, CALLS, COMPILE, Call, Comparison, FEED, FEED_LINE, FRESH, HOLD_ROW, RESTORE, SAVE,
 };
 use position_book::raw::{TABLE_LENGTH, book_length};
 use std::collections::BTreeSet;
@@ -64,12 +63,12 @@ fn every_exported_call_is_compared() {
 
 #[test]
 fn the_largest_book_is_the_models() {
-    assert_eq!(book_answers(1_000_000), [0, 0, 0, 0, 0, 0, 0]);
+    assert_eq!(book_answers(1_000_000), [0, 0, 0, 0, 0, 0]);
 }
 
 #[test]
 fn a_larger_book_is_refused() {
-    assert_eq!(book_answers(1_000_001), [8, 8, 8, 8, 8, 8, 8]);
+    assert_eq!(book_answers(1_000_001), [8, 8, 8, 8, 8, 8]);
 }
 
 /// What is answered of a book with room for so many bars.
@@ -79,7 +78,6 @@ fn book_answers(bars: usize) -> Vec<u64> {
     let (_, mut arguments) = comparison.run(&COMPILE, &sheet);
     arguments.text.clear();
     arguments.line = b"1,1970-01-02 00:00:00+00:00,1".to_vec();
-    arguments.list = b"B|1|0|0|3ff0000000000000|0\n".to_vec();
     arguments.book = vec![1; book_length(bars)];
     arguments.image = vec![1; book_length(bars)];
     let answer = |call: &Call| {
@@ -87,7 +85,7 @@ fn book_answers(bars: usize) -> Vec<u64> {
         arguments = after;
         number
     };
-    [FRESH, FEED, FEED_LINE, SAVE, RESTORE, REVISE, HOLD_ROW]
+    [FRESH, FEED, FEED_LINE, SAVE, RESTORE, HOLD_ROW]
         .iter()
         .map(answer)
         .collect()

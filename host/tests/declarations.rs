@@ -1,6 +1,5 @@
-//! The declarations of `src/raw.rs`, of `src/raw/answers.rs` and of `include/position_book.h` are those of the exported
-//! signatures: the same calls, arguments in the same order with the same types, and structs with the same fields. The
-//! archive has these symbols and no others of ours.
+//! The declarations of `src/raw.rs` and of `include/position_book.h` are those of the exported signatures: the same calls, arguments in the
+//! same order with the same types, and structs with the same fields. The archive has these symbols and no others of ours.
 
 use std::collections::BTreeMap;
 use std::fs;
@@ -154,8 +153,7 @@ fn c_calls(text: &str) -> BTreeMap<String, Shape> {
 fn rust_declares_what_is_exported() {
     let (calls_out, shapes) = exported();
     let raw = read("host/src/raw.rs");
-    assert_eq!(structs(&raw), BTreeMap::new());
-    assert_eq!(structs(&read("host/src/raw/answers.rs")), shapes);
+    assert_eq!(structs(&raw), shapes);
     assert_eq!(calls(&raw, "pub fn ", &[';', '{']), calls_out);
 }
 

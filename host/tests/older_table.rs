@@ -76,12 +76,11 @@ const INTERVALS: [u32; 14] = [
 ];
 
 /// The calls that take a table, by their names in `raw`.
-const CALLS: [&str; 11] = [
+const CALLS: [&str; 10] = [
     "feed",
     "feed_line",
     "save",
     "restore",
-    "revise",
     "pair_row",
     "hold_row",
     "pair_rows",
@@ -139,11 +138,6 @@ fn number(call: &str, lent: &mut Lent) -> u32 {
         "feed_line" => raw::feed_line(table, book, b"4,1970-01-02 00:00:00+00:00,97", b"").number,
         "save" => raw::save(table, book, image),
         "restore" => raw::restore(table, book, image),
-        "revise" => raw::revise(
-            table,
-            book,
-            b"B|5|0|0|4058400000000000|0\nS|d1_u_w|up_a_b_10\n",
-        ),
         "pair_row" => raw::pair_row(table, book, 0, buffer).number,
         "hold_row" => raw::hold_row(table, book, 0).number,
         "pair_rows" => raw::pair_rows(table, book, 0, buffer).number,

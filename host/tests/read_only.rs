@@ -4,9 +4,9 @@
 use std::path::Path;
 use std::process::Command;
 
-/// What all constants may take together. They take 1,164 bytes: more than 24 dates of four bytes, ours or as the compiler would keep a `match`,
+/// What all constants may take together. They take 952 bytes: more than 24 dates of four bytes, ours or as the compiler would keep a `match`,
 /// go past it. Who has to raise it looks first at what came (`objdump -s -j SECTION`).
-const LIMIT: usize = 1_200;
+const LIMIT: usize = 1_024;
 
 /// A section that the host loads and that is no code.
 struct Section {

@@ -21,24 +21,19 @@ struct Lent {
     signals: Vec<String>,
     /// The season's bars again, as later lines of the exchange's file, with as many digits as they may have.
     lines: Vec<String>,
-    /// The season's bars in revisions.
-    list: String,
 }
 
 /// A call by its name, and its number on what it is lent: 0, so that it went all its way.
 type Call = (&'static str, fn(&mut Lent) -> u32);
 
 /// Every exported call, in an order in which none is refused.
-const CALLS: [Call; 16] = [
+const CALLS: [Call; 15] = [
     ("compile", |a| raw::compile(&a.text, &mut a.table)),
     ("fresh", |a| raw::fresh(&mut a.book)),
     ("feed", feeds),
     ("feed_line", feed_lines),
     ("save", |a| raw::save(&a.table, &a.book, &mut a.image)),
     ("restore", |a| raw::restore(&a.table, &mut a.book, &a.image)),
-    ("revise", |a| {
-        raw::revise(&a.table, &mut a.book, a.list.as_bytes())
-    }),
     ("pair_row", |a| {
         raw::pair_row(&a.table, &a.book, 0, &mut a.rows).number
     }),
@@ -101,21 +96,6 @@ fn line(i: usize) -> String {
     format!("{id},2099-12-{day:02} 23:59:59-23:59,{price:016.6}")
 }
 
-/// The season's bars as a list of 900, each in 75 revisions of which the last counts, the latest bar first.
-fn list() -> String {
-    let entries = (0..raw::LIST_LIMIT).rev().map(|n| {
-        let (id, revision) = (n / 75, 4_294_967_221 + n % 75);
-        let (event, price) = SEASON[id];
-        let (instant, bits) = (id as i64 * 86_400_000_000, price.to_bits());
-        let lines: String = signals(event)
-            .lines()
-            .map(|line| format!("S|{line}\n"))
-            .collect();
-        format!("B|{id}|{instant}|28800|{bits:016x}|{revision}\n{lines}")
-    });
-    entries.collect()
-}
-
 /// A sheet at the limits: 32 events, 256 clauses, each with a key and a value of its own, and names of 256 bytes.
 fn sheet() -> String {
     let long = |letter: &str| letter.repeat(raw::NAME_LIMIT);
@@ -149,7 +129,6 @@ fn lent() -> Lent {
         rows: vec![0; 1 << 16],
         signals: (0..=32).map(signals).collect(),
         lines: (0..SEASON.len()).map(line).collect(),
-        list: list(),
     }
 }
 
@@ -157,7 +136,6 @@ fn lent() -> Lent {
 fn said(name: &str) -> usize {
     match name {
         "compile" => raw::COMPILE_STACK,
-        "revise" => raw::REVISE_STACK,
         _ => raw::CALL_STACK,
     }
 }
@@ -216,7 +194,7 @@ fn run_calls() -> [(&'static str, u32); CALLS.len()] {
 #[test]
 fn no_call_needs_more_than_is_said() {
     see_frames();
-    let thread = thread::Builder::new().stack_size(2 * raw::COMPILE_STACK.max(raw::REVISE_STACK));
+    let thread = thread::Builder::new().stack_size(2 * raw::COMPILE_STACK);
     let numbers = thread.spawn(run_calls).unwrap().join().unwrap();
     assert_eq!(numbers, CALLS.map(|(name, _)| (name, 0)));
 }
@@ -224,11 +202,7 @@ fn no_call_needs_more_than_is_said() {
 #[test]
 fn the_header_has_these_calls_and_these_figures() {
     let header = include_str!("../include/position_book.h");
-    let figures = [
-        ("COMPILE", raw::COMPILE_STACK),
-        ("REVISE", raw::REVISE_STACK),
-        ("CALL", raw::CALL_STACK),
-    ];
+    let figures = [("COMPILE", raw::COMPILE_STACK), ("CALL", raw::CALL_STACK)];
     for (name, bytes) in figures {
         assert!(header.contains(&format!("#define POSITION_BOOK_{name}_STACK {bytes}\n")));
     }

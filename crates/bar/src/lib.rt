@@ -1,4 +1,6 @@
 // A bar and its times: instants, local times, days and the seconds between two instants.
+#![tactic(auto)]
+
 ghost use Rattle.std.specs.Prelude.{◌≡◌, ◌<◌, ◌^◌};
 ghost use Rattle.std.specs.Int.Signed.{mag};
 ghost use Rattle.bar.specs.Time.{local_time, day_of, seconds_between};
@@ -11,22 +13,22 @@ pub const LAST_INSTANT: i64 = 4_102_444_799_999_999;
 pub const LAST_OFFSET: i32 = 86_399;
 
 // Microseconds from 1970 UTC.
-#[derive(Drop)]
+#[derive(Clone, Copy)]
 pub struct Instant(pub i64);
 
 // Microseconds from 1970 of the wall clock. Only an instant with its offset becomes one: the field is private.
-#[derive(Drop)]
+#[derive(Clone, Copy)]
 pub struct LocalTime(i64);
 
 // An instant, with the offset of its wall clock in seconds.
-#[derive(Drop)]
+#[derive(Clone, Copy)]
 pub struct Time {
     pub instant: Instant,
     pub offset: i32,
 }
 
 // A bar: its number, its time and its price.
-#[derive(Drop)]
+#[derive(Clone, Copy)]
 pub struct Bar {
     pub id: u32,
     pub time: Time,
@@ -34,7 +36,7 @@ pub struct Bar {
 }
 
 // The four numbers of a bar as they are given, in range or not.
-#[derive(Drop)]
+#[derive(Clone, Copy)]
 pub struct BarNumbers {
     pub id: i64,
     pub instant: i64,

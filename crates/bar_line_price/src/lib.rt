@@ -1,4 +1,6 @@
 // The price of a line of the exchange's comma file, read: digits, perhaps a point and more digits.
+#![tactic(auto)]
+
 ghost use Rattle.std.specs.Prelude.{◌≡◌, [], ◌∷◌, ◌^◌, ◌≤◌};
 ghost use Rattle.std.proofs.Math.Seq.{slice};
 ghost use Rattle.text.specs.Read.{Part};
@@ -10,7 +12,7 @@ ghost use Rattle.bar_line_price.specs.Read.{price_read_of, are_digits, Behind, C
 use text::find;
 
 // A price's double, or that it has too many digits, or departs from the form.
-#[derive(Drop)]
+#[derive(Clone, Copy)]
 pub enum PriceRead {
     Is(f64),
     Long,

@@ -1,4 +1,6 @@
 // A line of the exchange's comma file, read: `id,YYYY-MM-DD HH:MM:SS+HH:MM,price`.
+#![tactic(auto)]
+
 ghost use Rattle.std.specs.Prelude.{◌≡◌, ◌<◌, ◌^◌};
 ghost use Rattle.bar_line.specs.Line.{line_of};
 ghost use Rattle.bar_line_read.specs.Read.{line_read_of, line_by};
@@ -13,7 +15,7 @@ use text_number::{Number, decimal};
 const COMMA: u8 = 44;
 
 // What a line says: the four numbers of a bar, or why it is refused.
-#[derive(Drop)]
+#[derive(Clone, Copy)]
 pub enum LineRead {
     Bar(BarNumbers),
     Malformed,

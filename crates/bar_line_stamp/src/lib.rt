@@ -1,4 +1,6 @@
 // The time of a line of the exchange's comma file, read: `YYYY-MM-DD HH:MM:SS+HH:MM`.
+#![tactic(auto)]
+
 ghost use Rattle.std.specs.Prelude.{◌≡◌, ◌+◌, ◌^◌, ◌≤◌, ◌<◌, length, pos, ◌-ℤ◌};
 ghost use Rattle.bar_line.specs.Line.{pair_at, date_of, minutes_of, clock_of, offset_of, stamp_of};
 ghost use Rattle.bar_line_stamp.specs.Read.{AtMost, NumberAs, SixtiesAs, OffsetAs, stamp_at, stamp_read_of};
@@ -8,7 +10,7 @@ use calendar::{day_number, is_day};
 use text_number::{Number, decimal};
 
 // The seconds that a wall clock is ahead of UTC or behind it, or none.
-#[derive(Drop)]
+#[derive(Clone, Copy)]
 enum Offset {
     East(u64),
     West(u64),
@@ -16,7 +18,7 @@ enum Offset {
 }
 
 // The time of a line, or none.
-#[derive(Drop)]
+#[derive(Clone, Copy)]
 pub enum StampRead {
     At(Stamp),
     Bad,

@@ -1,4 +1,6 @@
 // The full check of a book, and the answers 9 and 10 that saves, restores and rows share.
+#![tactic(auto)]
+
 ghost use Rattle.std.specs.Prelude.{◌≡◌, ◌||◌, ◌+◌, ◌*◌, ◌≤◌, eqb, ltb, length};
 ghost use Rattle.le.specs.Field.{u8, u32};
 ghost use Rattle.book_header.specs.Size.{SizeOk};
@@ -14,7 +16,7 @@ use table::read_counts;
 use table_check::is_table;
 
 // The bytes are a book of the table, or why they are not.
-#[derive(Drop)]
+#[derive(Clone, Copy)]
 pub enum Checked {
     Passed,
     NotTable,

@@ -1,4 +1,6 @@
 // Holds and records in the bytes of a book: 32 bytes each, read and written.
+#![tactic(auto)]
+
 ghost use Rattle.std.specs.Prelude.{◌≡◌, true, ◌+◌, ◌≤◌, length};
 ghost use Rattle.std.specs.Float.Ieee.Scale.{finite};
 ghost use Rattle.le.specs.Le.{patch};

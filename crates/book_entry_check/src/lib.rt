@@ -1,4 +1,6 @@
 // Code only: the checks of a hold and of a record in their 32 bytes.
+#![tactic(auto)]
+
 ghost use Rattle.std.specs.Prelude.{◌≡◌, ◌+◌, ◌≤◌, length};
 ghost use Rattle.std.specs.Float.Ieee.Scale.{finite};
 ghost use Rattle.le.specs.Field.{f64};

@@ -1,5 +1,7 @@
 // A feed: the checks in the order of document 01, then the bar's step on the book. It is cut where feeds of another kind put checks of their own:
 // behind 9 (`open_table`), behind 10 (`open_book`) and before 13 (`accept_bar`).
+#![tactic(auto)]
+
 ghost use Rattle.std.specs.Prelude.{◌≡◌, [], true};
 ghost use Rattle.event_find.specs.Places.{lines_at, LinesOk};
 ghost use Rattle.table.specs.Table.{is_table};
@@ -20,7 +22,7 @@ use position::Report;
 use table_check::is_table;
 
 // What a feed answers: what it says of the accepted bar, or why it is refused.
-#[derive(Drop)]
+#[derive(Clone, Copy)]
 pub enum Feed {
     Done(Report),
     WrongLength,
@@ -38,7 +40,7 @@ pub enum Feed {
 }
 
 // How many bars an accepted table's book has room for, or why it is refused.
-#[derive(Drop)]
+#[derive(Clone, Copy)]
 pub enum Opened {
     Bars(u32),
     WrongLength,

@@ -1,4 +1,6 @@
 // What a step is given: the bar of four numbers, and the choice that a match stands for.
+#![tactic(auto)]
+
 ghost use Rattle.std.specs.Prelude.{◌≡◌, true};
 ghost use Rattle.bar.specs.Bar.{between};
 ghost use Rattle.table.specs.Layout.{counts_in, parts_in};
@@ -22,7 +24,7 @@ const LAST_OFFSET: i64 = bar::LAST_OFFSET as i64;
 const FIRST_OFFSET: i64 = -LAST_OFFSET;
 
 // A bar, or a field outside its range.
-#[derive(Drop)]
+#[derive(Clone, Copy)]
 pub enum BarRead {
     In(Bar),
     Outside,

@@ -1,4 +1,6 @@
 // A feed of a bar that a line of the exchange's comma file says.
+#![tactic(auto)]
+
 ghost use Rattle.std.specs.Prelude.{◌≡◌, true};
 ghost use Rattle.table.specs.Table.{is_table};
 ghost use Rattle.book.specs.Calls.{feed_line_do};

@@ -1,4 +1,6 @@
 // The step of a bar on a book: whether the bar is in time, and what an accepted one changes.
+#![tactic(auto)]
+
 ghost use Rattle.std.specs.Prelude.{◌≡◌, true, ◌<◌, ◌≤◌, length};
 ghost use Rattle.le.specs.Field.{u32 as Field·u32};
 ghost use Rattle.event_find.specs.Places.{lines_at, LinesOk};

@@ -1,4 +1,6 @@
 // Code only: the fields that a book's header, holds and records share: doubles, times and positions, read from bytes and written to them.
+#![tactic(auto)]
+
 ghost use Rattle.std.specs.Prelude.{◌≡◌, true, [], ◌∷◌, ◌+◌, ◌≤◌, length};
 ghost use Rattle.le.specs.Le.{patch};
 ghost use Rattle.le.specs.Field.{f64};

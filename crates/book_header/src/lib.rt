@@ -1,4 +1,6 @@
 // The size of a book, and its header read into a value.
+#![tactic(auto)]
+
 ghost use Rattle.std.specs.Prelude.{◌≡◌, ◌≤◌, length};
 ghost use Rattle.position.specs.State.{no_time, fresh_head};
 ghost use Rattle.book.specs.Layout.{open_at, reference_at, head_of};
@@ -16,7 +18,7 @@ use table::TABLE_LENGTH;
 const BAR_LENGTH: usize = 2 * ENTRY_LENGTH;
 
 // How many bars a book has room for, or a table or a book of another length.
-#[derive(Drop)]
+#[derive(Clone, Copy)]
 pub enum Sized {
     Bars(u32),
     Wrong,

@@ -1,4 +1,6 @@
 // The header check of a book.
+#![tactic(auto)]
+
 ghost use Rattle.std.specs.Prelude.{◌≡◌, ◌+◌, ◌≤◌, length};
 ghost use Rattle.std.specs.Int.Signed.{le_z};
 ghost use Rattle.le.specs.Le.{part};

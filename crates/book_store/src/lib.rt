@@ -1,4 +1,6 @@
 // Fresh, save and restore.
+#![tactic(auto)]
+
 ghost use Rattle.std.specs.Prelude.{◌≡◌, [], length};
 ghost use Rattle.book_header.specs.Size.{SizeOk};
 ghost use Rattle.book.specs.Calls.{fresh_do, save_do, restore_do};
@@ -12,7 +14,7 @@ use book_header_write::put_head;
 use text::{clear, put_part};
 
 // What the three calls answer: done, or why the bytes are refused.
-#[derive(Drop)]
+#[derive(Clone, Copy)]
 pub enum Stored {
     Done,
     WrongLength,

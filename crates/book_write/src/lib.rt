@@ -1,4 +1,6 @@
 // An accepted bar, written into the book's bytes: the last hold settled, a new hold, at most one record, the header.
+#![tactic(auto)]
+
 ghost use Rattle.std.specs.Prelude.{◌≡◌, true, ◌+◌, ◌<◌, ◌≤◌, length};
 ghost use Rattle.le.specs.Le.{patch};
 ghost use Rattle.le.specs.Field.{u32 as Field·u32};

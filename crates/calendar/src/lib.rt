@@ -1,4 +1,6 @@
 // The Gregorian calendar of the years 1970 to 2099: which days there are, and the number of each, counted from 1970-01-01.
+#![tactic(auto)]
+
 ghost use Rattle.std.specs.Prelude.{◌≡◌, true, ◌<◌};
 ghost use Rattle.calendar.specs.Calendar.{leap_year, month_length, month_first, day_number, real_day, Month};
 

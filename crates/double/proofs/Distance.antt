@@ -1,7 +1,7 @@
 -- A hold's yield lies within 1/2^38 basis point of the exact one. It is rounded three times, and each rounding goes by at most what `Rounding` says:
 -- the quotient by 2 / 2^54, what it is above or below 1 by 2 / 2^54, and that times 10000 by 2^14 / 2^54. In all 10000 × 2 + 10000 × 2 + 2^14 = 56384
 -- of 1 / 2^54, and 1 / 2^38 is 65536 of them. Assumes nothing.
-use Prim.Native.Nat.{ℕ, suc, ◌-◌, ◌*◌, ◌≤◌, ◌<◌}
+use Prim.Native.Nat.{ℕ, suc, ◌-◌, ◌*◌, ◌≤◌, ◌<◌, zero}
 use native.Mathlib.Nat.{mul-one, mul-pos}
 use native.Mathlib.Omega.{arith}
 use mathlib.Core.Bool.{Bool, true, false}
@@ -22,6 +22,7 @@ use Rattle.double.proofs.Rounding.{Rounded, round_close}
 quotient : (m n : ℕ) (i d : ℤ) → 0 < n → fin false m i ÷ fin false n d ≡ round binary64 false (m * up i * down d) (n * up d * down i)
 unfolding div
 quotient m (suc n) i d h = rw (eqb-suc-zero n)
+quotient m zero i d h = elim h [ ]
 
 -- less 1: ±w / q is p / q - 1
 record Less (m : ℕ) (j : ℤ) : Type 0 where

@@ -95,6 +95,7 @@ above (fin false (suc n) d) h = (tt, eqb-suc-zero n)
 
 or_left : (a b : Bool) → T a → T (a || b)
 or_left true b t = tt
+or_left false b t = elim t [ ]
 
 or_right : (a b : Bool) → T b → T (a || b)
 or_right true b t = tt

@@ -1,6 +1,8 @@
 // Doubles: whether one is finite, yields, rounding to a whole number, the stop test, days.
 //
 // Every operation rounds once, in the order in which it is written.
+#![tactic(auto)]
+
 ghost use Rattle.std.specs.Prelude.{◌≡◌, ◌<◌, ◌≤◌, ◌^◌};
 ghost use Rattle.std.specs.Float.Ieee.Scale.{finite};
 ghost use Rattle.std.specs.Int.Signed.{mag};
@@ -9,14 +11,14 @@ ghost use Rattle.double.specs.Read.{near};
 ghost use Rattle.double.specs.Double.{gain as Double·gain};
 
 // The side of a position.
-#[derive(Drop)]
+#[derive(Clone, Copy)]
 pub enum Side {
     Long,
     Short,
 }
 
 // The yield of a hold or of a pair in basis points.
-#[derive(Drop)]
+#[derive(Clone, Copy)]
 pub enum Yield {
     Absent,
     Bp(f64),

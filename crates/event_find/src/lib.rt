@@ -1,4 +1,6 @@
 // Finding the line of a key in a bar's signals, by fingerprints of their keys.
+#![tactic(auto)]
+
 ghost use Rattle.std.specs.Prelude.{◌≡◌, ◌≢◌, false, ◌+◌, ◌≤◌, ◌<◌, length};
 ghost use Rattle.std.proofs.Math.Seq.{slice};
 ghost use Rattle.text.specs.Read.{Part};
@@ -11,14 +13,14 @@ use le::{get_u32, wide};
 use text::part_eq;
 
 // A fingerprint up to a place.
-#[derive(Drop)]
+#[derive(Clone, Copy)]
 struct Printed {
     print: u64,
     at: usize,
 }
 
 // The number of a line, or none.
-#[derive(Drop)]
+#[derive(Clone, Copy)]
 pub enum Found {
     At(usize),
     Nowhere,

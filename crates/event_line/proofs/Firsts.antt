@@ -10,7 +10,6 @@ use borrow.Author.Tests.{eq-eqb, ne_eqb}
 use lib.Dec.{eqb}
 use lib.ListN.{length, get_or}
 use lib.Seq.{slice, length-slice}
-use Rattle.bytes.specs.Bytes.{index_of, index_after}
 use Rattle.text.specs.Read.{FirstAt}
 use Rattle.text.proofs.Laws.{part_cons, part_nil}
 

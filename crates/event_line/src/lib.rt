@@ -1,11 +1,13 @@
 // One line of a bar's signals: where its two fields end.
+#![tactic(auto)]
+
 ghost use Rattle.std.specs.Prelude.{◌+◌, ◌≤◌, ◌<◌, length};
 ghost use Rattle.event_line.specs.Fields.{Lesser, Placed, FieldEnd, LineFrom};
 
 use text::{LF, PIPE};
 
 // The places of a line's `|` and of its LF, or no line of two fields.
-#[derive(Drop)]
+#[derive(Clone, Copy)]
 pub enum LineRead {
     Ends(usize, usize),
     Wrong,

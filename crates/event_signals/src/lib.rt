@@ -1,4 +1,6 @@
 // Reading the text of a bar's signals.
+#![tactic(auto)]
+
 ghost use Rattle.std.specs.Prelude.{◌<◌, length};
 ghost use Rattle.event_signals.specs.Read.{Room, SignalsAs};
 ghost use Rattle.event_signals.specs.Steps.{Reading, AddedAs};
@@ -11,7 +13,7 @@ use utf8_text::{TEXT_LIMIT, valid};
 pub const LINE_LIMIT: usize = 256;
 
 // What a text says as a bar's signals, how many lines, or why it is refused.
-#[derive(Drop)]
+#[derive(Clone, Copy)]
 pub enum SignalsRead {
     Lines(usize),
     PastLimit,
@@ -21,7 +23,7 @@ pub enum SignalsRead {
 }
 
 // The place behind a line that was added, or what the whole text says.
-#[derive(Drop)]
+#[derive(Clone, Copy)]
 enum Added {
     Next(usize),
     Stop(SignalsRead),

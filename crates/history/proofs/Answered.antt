@@ -4,7 +4,7 @@ use mathlib.Core.Bool.{Bool, true, false, cond, ◌||◌}
 use mathlib.Core.List.{List, [], ◌∷◌}
 use mathlib.Core.Option.{Option, none, some}
 use mathlib.Core.Path.{◌≡◌, refl}
-use lib.Dec.{T, leb, ltb, eqb}
+use lib.Dec.{T, ltb, eqb}
 use lib.Ieee.{binary64, fits}
 use lib.ListN.{length}
 use lib.Signed.{lt_z}
@@ -20,6 +20,7 @@ use Rattle.sheet.specs.Sheet.{Kind, Sheet}
 use Rattle.sheet.specs.Read.{position_line, lots_behind, event_line, clause_line, later_line, sheet_line, read_sheet}
 use Rattle.bar.specs.Bar.{bar_of}
 use Rattle.bar.specs.declared.Time.{Time}
+use Rattle.event.specs.Signals.{Line, signal_line, read_signals}
 use Rattle.table.specs.Layout.{table_length}
 use Rattle.table.specs.Compile.{compile_do}
 use Rattle.table.specs.Table.{read_table}
@@ -29,13 +30,16 @@ use Rattle.position.specs.Feed.{Input, line_input, fed_of, admitted, Accepted}
 use Rattle.book.specs.Layout.{capacity, head_of, fresh_book}
 use Rattle.book.specs.Check.{header_ok}
 use Rattle.book.specs.Calls.{sized, checked, fresh_do, feed_on, feed_do, feed_line_do, save_do, restore_do}
-use Rattle.revise.specs.Lines.{lines, bar_count}
-use Rattle.revise.specs.Chosen.{chosen, agree}
-use Rattle.revise.specs.Revise.{revised_limit, revise_do}
-use Rattle.revise.proofs.Given.{with_got, signals_give, read_gives}
-use Rattle.revise.proofs.Taken.{Revised, took}
 
 -- ---- what the calls read
+
+line_gives : (ls : List Line) (fields : List (List ℕ)) → Gives Any (signal_line ls fields)
+unfolding signal_line
+line_gives ls fields = search loud
+
+signals_give : (s : List ℕ) → Gives Any (read_signals s)
+unfolding read_signals text
+signals_give s = search (loud, lines_give signal_line line_gives)
 
 fed_gives : (i : Input) → Gives Any (fed_of i)
 unfolding fed_of bar_of
@@ -164,23 +168,6 @@ of_line P t b line signals refused done = go (input_gives line signals)
     go : {a : Answer Input} → Gives (λ i. T (fits binary64 i.price)) a → P a (feed_on t b a)
     go (refuses {n}) = unread (suc n) (unread_gives t b n)
     go (gives {x} double) = done x double
-
--- ---- a revise, and what it took
-
-pub revise_gives : (t b s : List ℕ) → Gives (Revised t b s) (revise_do t b s)
-unfolding revise_do
-revise_gives t b s = with_got done (took t b s)
-  where
-    done : Gives Any (revise_do t b s)
-    done =
-        then_gives (must_gives 7 (leb (bar_count (lines s)) revised_limit) tt)
-        (λ _. then_gives {a = sized t b} (sized_gives t b)
-        (λ c. then_gives (table_gives t)
-        (λ sheet. then_with (read_gives s)
-        (λ es ok. then_gives (must_gives 19 (agree es) tt)
-        (λ _. then_gives (must_gives 14 (leb (length (chosen es)) c) tt) (λ _. gives tt))))))
-
--- ---- save and restore
 
 checked_gives : (t : List ℕ) (c : ℕ) (b : List ℕ) → Gives Any (checked t c b)
 unfolding checked

@@ -3,7 +3,7 @@ use Prim.Native.Nat.{ℕ}
 use native.Mathlib.Omega.{arith}
 use mathlib.Core.Bool.{Bool, true, false, cond}
 use mathlib.Core.List.{List, [], ◌∷◌}
-use mathlib.Core.Path.{◌≡◌, refl, sym, ap, ◌∙◌, subst}
+use mathlib.Core.Path.{◌≡◌, refl, sym, ap, ◌∙◌}
 use mathlib.Mathlib.Data.List.Basic.{Forall-cons}
 use lib.Dec.{T}
 use lib.Ieee.{binary64, fits}
@@ -11,7 +11,6 @@ use lib.ListN.{length}
 use Rattle.text.specs.Answer.{Answer, Refused, Got, ◌>>=◌, number, got_or}
 use Rattle.text.specs.Text.{same}
 use Rattle.text.proofs.Same.{same_eq}
-use Rattle.text.proofs.Answers.{got_same}
 use Rattle.text.proofs.Refusals.{Gives, refuses, gives, Any}
 use Rattle.sheet.specs.Sheet.{Sheet}
 use Rattle.table.specs.Table.{read_table}
@@ -25,14 +24,11 @@ use Rattle.book.specs.Layout.{encode}
 use Rattle.book.specs.Calls.{feed_do, feed_bytes}
 use Rattle.book.proofs.Feeds.{Ready, feed_is}
 use Rattle.book.proofs.Ready.{ready}
-use Rattle.revise.specs.Chosen.{chosen, feds}
-use Rattle.revise.specs.Revise.{revised_bars}
-use Rattle.revise.proofs.Taken.{Revised, revised_bars_lem, revised_reached}
-use Rattle.history.specs.Calls.{Fresh, Feed, FeedLine, Revise, Save, Restore, answered, after}
-use Rattle.history.specs.Survivors.{Past, Unknown, Known, Saved, Ledger, add, past_of, saved_as, if_done, survive}
+use Rattle.history.specs.Calls.{Fresh, Feed, FeedLine, Save, Restore, answered, after}
+use Rattle.history.specs.Survivors.{Past, Unknown, Known, Saved, Ledger, add, saved_as, if_done, survive}
 use Rattle.history.proofs.Invariant.{BookOf, Follows, SavedRight, Good, saved_follows}
 use Rattle.history.proofs.Booked.{cleared, stepped}
-use Rattle.history.proofs.Answered.{Cleared, fresh_gives, feed_gives, of_line, revise_gives, save_gives, restore_gives}
+use Rattle.history.proofs.Answered.{Cleared, fresh_gives, feed_gives, of_line, save_gives, restore_gives}
 
 -- ---- save and restore
 
@@ -55,7 +51,7 @@ module _ (table : List ℕ) (s : Sheet) (l : Ledger) (b : List ℕ) (good : Good
       go refuses = good
       go (gives e) = record { book = rw e (saved_follows s k image l.saves good.saves); saves = good.saves }
 
--- ---- fresh, feed and revise
+-- ---- fresh and feed
 
 module _ (table : List ℕ) (s : Sheet) (meant : read_table table ≡ Got s) where
   pub fresh-book : (b x : List ℕ) → Cleared b x → BookOf s (plain s []) x
@@ -114,22 +110,3 @@ module _ (table : List ℕ) (s : Sheet) (meant : read_table table ≡ Got s) whe
     line_keeps t line signals =
         of_line (λ a x. Good s (if_done (number x) (record { past = cond (same t table) (add l.past (a >>= fed_of)) Unknown; saves = l.saves }) l) (feed_bytes b x))
         t b line signals (λ n m. good) (λ i double. feed_keeps t i double)
-
-    -- a revise's book is that of the bars that its text has chosen, whatever was there before
-    pub revise_keeps : (t text : List ℕ) → Good s (survive table l (Revise t text) (answered b (Revise t text))) (after b (Revise t text))
-    revise_keeps t text = go (revise_gives t b text)
-      where
-        revised : (x : List ℕ) → t ≡ table → (r : Revised t b text x) → BookOf s (plain s (feds (chosen r.es))) x
-        revised x e r =
-            let own : r.sheet ≡ s = got_same r.sheet s (sym r.meant ∙ ap read_table e ∙ meant) in
-            subst (λ (u : Sheet). BookOf u (plain u (feds (chosen r.es))) x) own
-            (record { bars = r.bars; state = r.left; sound = (revised_reached r).0; room = (revised_reached r).1 })
-
-        followed : (u : Bool) (x : List ℕ) → same t table ≡ u → Revised t b text x → Follows s (cond u (past_of (revised_bars text)) Unknown) x
-        followed false x h r = tt
-        followed true x h r = rw (revised_bars_lem r) (revised x (same_eq t table h) r)
-
-        go : {a : Answer (List ℕ)} → Gives (Revised t b text) a
-            → Good s (if_done (number a) (record { past = cond (same t table) (past_of (revised_bars text)) Unknown; saves = l.saves }) l) (got_or b a)
-        go refuses = good
-        go (gives {x} r) = record { book = followed (same t table) x refl r; saves = good.saves }

@@ -1,5 +1,4 @@
--- The survivors stay known while accepted feeds and revises have the table and accepted restores the image of the save that they name.
--- Assumes nothing.
+-- The survivors stay known while accepted feeds have the table and accepted restores the image of the save that they name. Assumes nothing.
 use Prim.Native.Nat.{ℕ, zero, suc}
 use mathlib.Core.Bool.{cond}
 use mathlib.Core.List.{List, [], ◌∷◌, map}
@@ -14,11 +13,9 @@ use Rattle.text.proofs.Same.{same_refl}
 use Rattle.text.proofs.Refusals.{Gives, refuses, gives}
 use Rattle.position.specs.Step.{Fed}
 use Rattle.position.specs.Feed.{Input, Accepted, fed_of}
-use Rattle.revise.specs.Revise.{revised_bars}
-use Rattle.revise.proofs.Taken.{Revised, revised_bars_lem}
-use Rattle.history.specs.Calls.{Call, Fresh, Feed, FeedLine, Revise, Save, Restore, Ask, answered, after, done_from}
-use Rattle.history.specs.Survivors.{Past, Unknown, Known, Saved, Ledger, add, past_of, saved_as, if_done, survive, ledger_from, images, Ours, AllOurs}
-use Rattle.history.proofs.Answered.{feed_fed, of_line, revise_gives}
+use Rattle.history.specs.Calls.{Call, Fresh, Feed, FeedLine, Save, Restore, Ask, answered, after, done_from}
+use Rattle.history.specs.Survivors.{Past, Unknown, Known, Saved, Ledger, add, saved_as, if_done, survive, ledger_from, images, Ours, AllOurs}
+use Rattle.history.proofs.Answered.{feed_fed, of_line}
 
 abbrev pub IsKnown : Past → Type 0
 IsKnown Unknown = ⊥
@@ -63,14 +60,6 @@ module _ (table b : List ℕ) (l : Ledger) (is : List (List ℕ)) (k : Sure l is
       of_line (λ a x. (number x ≡ 0 → t ≡ table) → Sure (if_done (number x) (record { past = cond (same t table) (add l.past (a >>= fed_of)) Unknown; saves = l.saves }) l) is)
       t b line signals (λ n m h. k) (λ i double. feed_sure t i)
 
-  revise_sure : (t text : List ℕ) → Ours table is (Revise t text) (answered b (Revise t text)) → Sure (survive table l (Revise t text) (answered b (Revise t text))) is
-  revise_sure t text ours = go (revise_gives t b text) ours
-    where
-      go : {a : Answer (List ℕ)} → Gives (Revised t b text) a → (number a ≡ 0 → t ≡ table)
-          → Sure (if_done (number a) (record { past = cond (same t table) (past_of (revised_bars text)) Unknown; saves = l.saves }) l) is
-      go refuses h = k
-      go (gives r) h = record { past = rw (h refl, same_refl table, revised_bars_lem r) tt; saves = k.saves; left = k.left }
-
   -- with other bars, at the same saves
   at : (n : ℕ) (p : Past) → (n ≡ 0 → IsKnown p) → Sure (if_done n (record { past = p; saves = l.saves }) l) is
   at zero p h = record { past = h refl; saves = k.saves; left = k.left }
@@ -90,7 +79,6 @@ module _ (table b : List ℕ) (l : Ledger) (is : List (List ℕ)) (k : Sure l is
   call_sure Fresh ours = at (answered b Fresh).number (Known []) (λ e. tt)
   call_sure (Feed t i) ours = feed_sure t i ours
   call_sure (FeedLine t line signals) ours = line_sure t line signals ours
-  call_sure (Revise t text) ours = revise_sure t text ours
   call_sure (Save t image) ours = noted (answered b (Save t image)).number (answered b (Save t image)).image
   call_sure (Restore t image j) ours =
       at (answered b (Restore t image j)).number (saved_as j image l.saves)

@@ -11,10 +11,8 @@ use Rattle.position.specs.Feed.{Accepted}
 use Rattle.book.specs.Layout.{bar_limit, capacity}
 use Rattle.book.specs.Calls.{fresh_do, feed_do, feed_line_do, feed_bytes, restore_do}
 use Rattle.book.proofs.Sizes.{fresh-size, feed_size, restore_size}
-use Rattle.revise.specs.Revise.{revise_do}
-use Rattle.revise.proofs.Taken.{revise_size}
 use Rattle.history.proofs.Answered.{of_line}
-use Rattle.history.specs.Calls.{Call, Fresh, Feed, FeedLine, Revise, Save, Restore, Ask, after, book_after}
+use Rattle.history.specs.Calls.{Call, Fresh, Feed, FeedLine, Save, Restore, Ask, after, book_after}
 
 -- a refused call leaves the book, and an accepted one a book as long
 left : (b : List ℕ) (a : Answer (List ℕ)) → ((x : List ℕ) → a ≡ Got x → length x ≡ length b) → length (got_or b a) ≡ length b
@@ -30,7 +28,6 @@ after-size b Fresh = left b (fresh_do b) (fresh-size b)
 after-size b (Feed t i) = left-fed b (feed_do t b i) (feed_size t b i)
 after-size b (FeedLine t line signals) =
     of_line (λ a x. length (feed_bytes b x) ≡ length b) t b line signals (λ n m. refl) (λ i double. left-fed b (feed_do t b i) (feed_size t b i))
-after-size b (Revise t text) = left b (revise_do t b text) (revise_size t b text)
 after-size b (Save t image) = refl
 after-size b (Restore t image k) = left b (restore_do t b image) (restore_size t b image)
 after-size b (Ask r) = refl

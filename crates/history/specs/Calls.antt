@@ -5,7 +5,6 @@ use Rattle.position.specs.Feed.{Input}
 use Rattle.book.specs.Calls.{fresh_do, feed_do, feed_line_do, feed_bytes, save_do, restore_do}
 use Rattle.row.specs.Calls.{pair_do, hold_do, event_name_do}
 use Rattle.row_blocks.specs.Blocks.{hold_block_do, pair_block_do, counts_do}
-use Rattle.revise.specs.Revise.{revise_do}
 
 -- ---- one call
 
@@ -18,14 +17,12 @@ pub data Request : Type 0 where
   Counts : List ℕ → Request
   EventName : List ℕ → ℤ → List ℕ → Request
 
--- Each with its arguments, whatever they are: a table's bytes first; a feed of a line has the line and the signals' text, a revise its text of bars with
--- revisions; a save has the image buffer at entry, a restore its image. The number of a restore is no argument of the call: it names the save that its
--- image is taken to be of, among the accepted saves before, the last being 0.
+-- Each with its arguments, whatever they are: a table's bytes first; a feed of a line has the line and the signals' text; a save has the image buffer at entry, a restore its image. The number of a
+-- restore is no argument of the call: it names the save that its image is taken to be of, among the accepted saves before, the last being 0.
 pub data Call : Type 0 where
   Fresh : Call
   Feed : List ℕ → Input → Call
   FeedLine : List ℕ → List ℕ → List ℕ → Call
-  Revise : List ℕ → List ℕ → Call
   Save : List ℕ → List ℕ → Call
   Restore : List ℕ → List ℕ → ℕ → Call
   Ask : Request → Call
@@ -51,7 +48,6 @@ abbrev pub answered : List ℕ → Call → Answered
 answered b Fresh = numbered (number (fresh_do b))
 answered b (Feed t i) = numbered (number (feed_do t b i))
 answered b (FeedLine t line signals) = numbered (number (feed_line_do t b line signals))
-answered b (Revise t text) = numbered (number (revise_do t b text))
 answered b (Save t image) = record { number = number (save_do t b image); image = got_or image (save_do t b image) }
 answered b (Restore t image k) = numbered (number (restore_do t b image))
 answered b (Ask r) = numbered (asked b r)
@@ -61,7 +57,6 @@ abbrev pub after : List ℕ → Call → List ℕ
 after b Fresh = got_or b (fresh_do b)
 after b (Feed t i) = feed_bytes b (feed_do t b i)
 after b (FeedLine t line signals) = feed_bytes b (feed_line_do t b line signals)
-after b (Revise t text) = got_or b (revise_do t b text)
 after b (Save t image) = b
 after b (Restore t image k) = got_or b (restore_do t b image)
 after b (Ask r) = b

@@ -17,7 +17,7 @@ use Rattle.book.specs.Layout.{capacity, encode}
 use Rattle.book.specs.Calls.{fresh_do, feed_do, feed_line_do, save_do, restore_do}
 use Rattle.row.specs.Calls.{row_buffer, row_at, pair_do, hold_do, event_name_do}
 use Rattle.row_blocks.specs.Blocks.{hold_row_bytes, hold_row_length, pair_row_bytes, pair_row_limit, block_from, hold_block_do, pair_block_do, counts_do}
-use Rattle.history.specs.Calls.{Call, Fresh, Feed, FeedLine, Revise, Save, Restore, Ask, book_after, Done, done_from}
+use Rattle.history.specs.Calls.{Call, Fresh, Feed, FeedLine, Save, Restore, Ask, book_after, Done, done_from}
 use Rattle.history.specs.Survivors.{Known, survivors, AllOurs}
 
 -- the doubles of a row are numbers
@@ -72,13 +72,12 @@ pub record Claimed (table : List ℕ) (s : Sheet) (lent : List ℕ) (ds : List D
   pub known : AllOurs table [] ds → (fs : List Fed) × (survivors table ds ≡ Known fs)
   pub kept : (fs : List Fed) → survivors table ds ≡ Known fs → Kept table s lent fs b
 
--- each price that is handed over is a double: the logic's `Float` has values that no double is, and every f64 argument `fits`. A line and a
--- revise's text hand over none.
+-- each price that is handed over is a double: the logic's `Float` has values that no double is, and every f64 argument `fits`. A line hands over
+-- none.
 abbrev pub is_double : Call → Bool
 is_double Fresh = true
 is_double (Feed t i) = fits binary64 i.price
 is_double (FeedLine t line signals) = true
-is_double (Revise t text) = true
 is_double (Save t image) = true
 is_double (Restore t image k) = true
 is_double (Ask r) = true

@@ -6,13 +6,12 @@ use Rattle.text.specs.Answer.{Answer, Refused, Got, ◌>>=◌}
 use Rattle.text.specs.Text.{same}
 use Rattle.position.specs.Step.{Fed}
 use Rattle.position.specs.Feed.{line_input, fed_of}
-use Rattle.revise.specs.Revise.{revised_bars}
-use Rattle.history.specs.Calls.{Call, Fresh, Feed, FeedLine, Revise, Save, Restore, Ask, Answered, Done}
+use Rattle.history.specs.Calls.{Call, Fresh, Feed, FeedLine, Save, Restore, Ask, Answered, Done}
 
 -- ---- the survivors
 
 -- the bars and signals that the book stands for; they are not known after a restore whose image is not that of the save it names, and after an
--- accepted feed or revise with another table, until a fresh, a revise or a restore brings known ones back
+-- accepted feed with another table, until a fresh or a restore brings known ones back
 pub data Past : Type 0 where
   Unknown : Past
   Known : List Fed → Past
@@ -33,11 +32,6 @@ add Unknown a = Unknown
 add (Known fs) (Refused n) = Unknown
 add (Known fs) (Got f) = Known (fs ++ f ∷ [])
 
--- those that a text has chosen
-abbrev pub past_of : Answer (List Fed) → Past
-past_of (Refused n) = Unknown
-past_of (Got fs) = Known fs
-
 -- "those at the save that wrote its image": save number k, where it wrote these bytes
 unfoldable pub saved_as : ℕ → List ℕ → List Saved → Past
 saved_as k image [] = Unknown
@@ -50,14 +44,12 @@ if_done zero x y = x
 if_done (suc n) x y = y
 
 -- "fresh, none; after an accepted feed, those before with its own added at the end; after an accepted restore, those at the save that wrote
--- its image; else as before": of a book whose table this is. A line's "own" is the bar that the line says. After an accepted revise, which feeds them
--- "to a fresh book", they are the bars that its text has chosen.
+-- its image; else as before": of a book whose table this is. A line's "own" is the bar that the line says.
 abbrev pub survive : List ℕ → Ledger → Call → Answered → Ledger
 survive table l Fresh a = if_done a.number (record { past = Known []; saves = l.saves }) l
 survive table l (Feed t i) a = if_done a.number (record { past = cond (same t table) (add l.past (fed_of i)) Unknown; saves = l.saves }) l
 survive table l (FeedLine t line signals) a =
     if_done a.number (record { past = cond (same t table) (add l.past (line_input line signals >>= fed_of)) Unknown; saves = l.saves }) l
-survive table l (Revise t text) a = if_done a.number (record { past = cond (same t table) (past_of (revised_bars text)) Unknown; saves = l.saves }) l
 survive table l (Save t image) a = if_done a.number (record { past = l.past; saves = record { image = a.image; past = l.past } ∷ l.saves }) l
 survive table l (Restore t image k) a = if_done a.number (record { past = saved_as k image l.saves; saves = l.saves }) l
 survive table l (Ask r) a = l
@@ -77,17 +69,15 @@ abbrev pub images : List (List ℕ) → Call → Answered → List (List ℕ)
 images is Fresh a = is
 images is (Feed t i) a = is
 images is (FeedLine t line signals) a = is
-images is (Revise t text) a = is
 images is (Save t image) a = if_done a.number (a.image ∷ is) is
 images is (Restore t image k) a = is
 images is (Ask r) a = is
 
--- an accepted feed or revise had the table, and the image of an accepted restore is the one that the save it names left
+-- an accepted feed had the table, and the image of an accepted restore is the one that the save it names left
 abbrev pub Ours : List ℕ → List (List ℕ) → Call → Answered → Type 0
 Ours table is Fresh a = Unit {0}
 Ours table is (Feed t i) a = a.number ≡ 0 → t ≡ table
 Ours table is (FeedLine t line signals) a = a.number ≡ 0 → t ≡ table
-Ours table is (Revise t text) a = a.number ≡ 0 → t ≡ table
 Ours table is (Save t image) a = Unit {0}
 Ours table is (Restore t image k) a = a.number ≡ 0 → get_elem? is k ≡ some image
 Ours table is (Ask r) a = Unit {0}

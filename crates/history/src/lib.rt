@@ -1,1 +1,3 @@
-// Theorems only: demand 3, every list of feeds, revises, saves, restores and requests on one book.
+// Theorems only: demand 3, every list of feeds, saves, restores and requests on one book.
+
+#![tactic(auto)]

@@ -18,7 +18,7 @@ use Rattle.position_book_answer.specs.declared.HoldAnswer.{HoldAnswer}
 use Rattle.position_book_answer.specs.declared.BlockAnswer.{BlockAnswer}
 use Rattle.position_book_answer.specs.declared.CountsAnswer.{CountsAnswer}
 use Rattle.position_book_answer_alone.specs.declared.NameAnswer.{NameAnswer}
-use Rattle.history.specs.Calls.{Request, PairRow, HoldRow, PairRows, HoldRows, Counts, EventName, Call, Fresh, Feed, FeedLine, Revise, Save, Restore, Ask, asked, Answered, numbered, answered, after, book_after, Done, done_from}
+use Rattle.history.specs.Calls.{Request, PairRow, HoldRow, PairRows, HoldRows, Counts, EventName, Call, Fresh, Feed, FeedLine, Save, Restore, Ask, asked, Answered, numbered, answered, after, book_after, Done, done_from}
 use Rattle.history_exported.specs.Run.{Answers, Did, Ran}
 
 -- ---- the number of each answer
@@ -61,7 +61,6 @@ pub tied : (b : List ℕ) (c : Call) (x : List ℕ) (a : Answered) → Did b c x
 tied b Fresh x a d = (d.2 ∙ ap numbered d.1.0, d.1.1)
 tied b (Feed t i) x a d = (d.2 ∙ ap numbered (ap (λ (r : FeedAnswer). r.number) d.1.0 ∙ feed_says (feed_do t b i)), d.1.1)
 tied b (FeedLine t line signals) x a d = (d.2 ∙ ap numbered (ap (λ (r : FeedAnswer). r.number) d.1.0 ∙ feed_says (feed_line_do t b line signals)), d.1.1)
-tied b (Revise t text) x a d = (d.2 ∙ ap numbered d.1.0, d.1.1)
 tied b (Save t image) x a d = (d.3 ∙ rw (d.2.0, d.2.1) refl, d.4)
 tied b (Restore t image k) x a d = (d.2 ∙ ap numbered d.1.0, d.1.1)
 tied b (Ask q) x a d = (d.2 ∙ ap numbered (asked_is b q d.0 d.1), d.3)

@@ -6,8 +6,7 @@ use Rattle.table.specs.Compile.{compile_do}
 use Rattle.book.specs.Calls.{fresh_do, feed_do, feed_line_do, save_do, restore_do}
 use Rattle.row.specs.Calls.{pair_do, hold_do, event_name_do}
 use Rattle.row_blocks.specs.Blocks.{hold_block_do, pair_block_do, counts_do}
-use Rattle.revise.specs.Revise.{revise_do}
-use Rattle.history.specs.Calls.{Request, PairRow, HoldRow, PairRows, HoldRows, Counts, EventName, Call, Fresh, Feed, FeedLine, Revise, Save, Restore, Ask, Answered, numbered, Done}
+use Rattle.history.specs.Calls.{Request, PairRow, HoldRow, PairRows, HoldRows, Counts, EventName, Call, Fresh, Feed, FeedLine, Save, Restore, Ask, Answered, numbered, Done}
 use Rattle.history.specs.Demand3.{Claimed, doubles}
 use Rattle.position_book_answer.specs.Rows.{hold_answer, counts_answer}
 use Rattle.position_book_answer.specs.declared.FeedAnswer.{FeedAnswer}
@@ -33,7 +32,6 @@ abbrev pub Did : List ℕ → Call → List ℕ → Answered → Type 0
 Did b Fresh x a = (r : ℕ) × StoreIs (fresh_do b) b x r × (a ≡ numbered r)
 Did b (Feed t i) x a = (r : FeedAnswer) × FeedIs (feed_do t b i) b x r × (a ≡ numbered r.number)
 Did b (FeedLine t line signals) x a = (r : FeedAnswer) × FeedIs (feed_line_do t b line signals) b x r × (a ≡ numbered r.number)
-Did b (Revise t text) x a = (r : ℕ) × StoreIs (revise_do t b text) b x r × (a ≡ numbered r)
 Did b (Save t image) x a = (r : ℕ) × (out : List ℕ) × StoreIs (save_do t b image) image out r × (a ≡ record { number = r; image = out }) × (x ≡ b)
 Did b (Restore t image k) x a = (r : ℕ) × StoreIs (restore_do t b image) b x r × (a ≡ numbered r)
 Did b (Ask q) x a = (n : ℕ) × Answers b q n × (a ≡ numbered n) × (x ≡ b)

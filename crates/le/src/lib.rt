@@ -1,4 +1,6 @@
 // Little-endian numbers at an offset of a byte slice: unsigned, signed in two's complement, and doubles.
+#![tactic(auto)]
+
 ghost use Rattle.std.specs.Prelude.{◌≡◌, not, T, ◌+◌, ◌<◌, ◌≤◌, length};
 ghost use Rattle.std.specs.Float.{binary64};
 ghost use Rattle.std.specs.Float.Ieee.{to_bits, nan_bits, is_nan};
@@ -153,7 +155,7 @@ pub fn is_nan_bits(b: u64) -> bool
 }
 
 // What 64 bits hold: a double, or a NaN's pattern.
-#[derive(Drop)]
+#[derive(Clone, Copy)]
 pub enum Real {
     Value(f64),
     Nan,

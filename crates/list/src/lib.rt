@@ -1,1 +1,3 @@
 // Definitions only: lists by the numbers of their elements.
+
+#![tactic(auto)]

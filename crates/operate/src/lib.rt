@@ -1,4 +1,6 @@
 // Operates: the codes 0 to 6, their two spellings, and an operate that stands alone.
+#![tactic(auto)]
+
 ghost use Rattle.std.specs.Prelude.{◌≡◌, ◌||◌, [], ◌<◌, eqb, get_or};
 ghost use Rattle.text.specs.Text.{same};
 ghost use Rattle.operate.specs.Operate.{LO as Operate-as-LO, SO as Operate-as-SO, latin as Operate·latin, chinese as Operate·chinese, known, operate_of, operate_alone};
@@ -18,7 +20,7 @@ pub const SO: u8 = 5;
 
 pub const SE: u8 = 6;
 
-#[derive(Drop)]
+#[derive(Clone, Copy)]
 pub enum Operate {
     HL,
     HS,
@@ -30,14 +32,14 @@ pub enum Operate {
 }
 
 // What a spelling or a code stands for.
-#[derive(Drop)]
+#[derive(Clone, Copy)]
 pub enum OperateRead {
     Is(Operate),
     Unknown,
 }
 
 // What a text that stands alone stands for, or why it is refused.
-#[derive(Drop)]
+#[derive(Clone, Copy)]
 pub enum OperateAlone {
     Named(Operate),
     TooLong,

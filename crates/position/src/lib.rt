@@ -1,9 +1,11 @@
 // Definitions only: the plain machine, its values, the rows that they give and the run program's text. The crate `position_machine` has
 // the step in code.
+#![tactic(auto)]
+
 use bar::{Bar, LocalTime, Time};
 use double::{Side, Yield};
 
-#[derive(Drop)]
+#[derive(Clone, Copy)]
 pub enum Pos {
     Short,
     Flat,
@@ -11,14 +13,14 @@ pub enum Pos {
 }
 
 // The time of the last opening of a side, if there was one.
-#[derive(Drop)]
+#[derive(Clone, Copy)]
 pub enum Open {
     Never,
     At(Time),
 }
 
 // The bar and the event of an LO or SO.
-#[derive(Drop)]
+#[derive(Clone, Copy)]
 pub struct LastEvent {
     pub bar: Bar,
     pub operate: u8,
@@ -26,14 +28,14 @@ pub struct LastEvent {
 }
 
 // The last LO or SO, against which stops and timeouts are taken, if there was one.
-#[derive(Drop)]
+#[derive(Clone, Copy)]
 pub enum Reference {
     Never,
     At(LastEvent),
 }
 
 // The event that a bar's signals choose: its operate, its index, by which its name is had, and its lots.
-#[derive(Drop)]
+#[derive(Clone, Copy)]
 pub struct Choice {
     pub operate: u8,
     pub event: u16,
@@ -41,7 +43,7 @@ pub struct Choice {
 }
 
 // What a bar changes beside the lists of records and holds.
-#[derive(Drop)]
+#[derive(Clone, Copy)]
 pub struct Head {
     pub pos: Pos,
     pub changed: bool,
@@ -52,7 +54,7 @@ pub struct Head {
 }
 
 // A record's description: an event by its index, a stop, or a timeout.
-#[derive(Drop)]
+#[derive(Clone, Copy)]
 pub enum Description {
     Event(u16),
     Stop,
@@ -60,7 +62,7 @@ pub enum Description {
 }
 
 // An operation: an opening or a closing, with the position after it, and the lots opened or closed.
-#[derive(Drop)]
+#[derive(Clone, Copy)]
 pub struct Record {
     pub bar: Bar,
     pub operate: u8,
@@ -70,7 +72,7 @@ pub struct Record {
 }
 
 // The position at the end of a bar, the yield up to the next bar (the Rust's n1b), and the open lots: 0 when Flat.
-#[derive(Drop)]
+#[derive(Clone, Copy)]
 pub struct Hold {
     pub time: Time,
     pub pos: Pos,
@@ -81,7 +83,7 @@ pub struct Hold {
 
 // A pair as a row: its side, both local times, both prices, the id difference, days, the yield, the lengths of symbol, mark and
 // sequence in the row buffer, and the lots opened.
-#[derive(Drop)]
+#[derive(Clone, Copy)]
 pub struct PairRow {
     pub side: Side,
     pub opened: LocalTime,
@@ -98,7 +100,7 @@ pub struct PairRow {
 }
 
 // A hold as a row: its local time, -1, 0 or 1, its price and its yield.
-#[derive(Drop)]
+#[derive(Clone, Copy)]
 pub struct HoldRow {
     pub local: LocalTime,
     pub pos: i32,
@@ -107,14 +109,14 @@ pub struct HoldRow {
 }
 
 // What decided a bar.
-#[derive(Drop)]
+#[derive(Clone, Copy)]
 pub enum Decision {
     Nothing,
     By(Description),
 }
 
 // What a feed says of an accepted bar.
-#[derive(Drop)]
+#[derive(Clone, Copy)]
 pub struct Report {
     pub pos: Pos,
     pub changed: bool,

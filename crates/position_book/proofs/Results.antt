@@ -16,9 +16,6 @@ use Rattle.book_store.specs.declared.Stored.{Stored}
 use Rattle.book_store.specs.declared.Stored.TheVariants.{Done, WrongLength, NotTable, NotBook}
 use Rattle.book_feed.specs.Feed.{feed_of, FeedAs}
 use Rattle.book_feed.specs.declared.Feed.{Feed}
-use Rattle.revise_book.specs.Revised.{revised_of, RevisedAs}
-use Rattle.revise_book.specs.declared.Revised.{Revised}
-use Rattle.revise_book.specs.declared.Revised.TheVariants as Revised
 use Rattle.row_pairs.specs.Read.{pair_read_of, PairAs}
 use Rattle.row_pairs.specs.declared.PairRead.{PairRead}
 use Rattle.row_blocks.specs.Read.{block_read_of, BlockAs}
@@ -42,23 +39,6 @@ stored_number after NotBook = refl
 
 pub store_is : {d : Answer (List ℕ)} {before after : List ℕ} {q : Stored} {r : ℕ} → StoredAs d before after q → r ≡ number (stored_of [] q) → StoreIs d before after r
 store_is {after = after} {q} s e = (e ∙ stored_number after q ∙ ap number s.is, s.bytes)
-
-revised_number : (after : List ℕ) (q : Revised) → number (revised_of [] q) ≡ number (revised_of after q)
-revised_number after Revised.Done = refl
-revised_number after Revised.NotUtf8 = refl
-revised_number after Revised.Malformed = refl
-revised_number after Revised.BadNumber = refl
-revised_number after Revised.PastLimit = refl
-revised_number after Revised.WrongLength = refl
-revised_number after Revised.NotTable = refl
-revised_number after Revised.NotBook = refl
-revised_number after Revised.BadBar = refl
-revised_number after Revised.Twice = refl
-revised_number after Revised.Full = refl
-revised_number after Revised.Differs = refl
-
-pub revised_is : {d : Answer (List ℕ)} {before after : List ℕ} {q : Revised} {r : ℕ} → RevisedAs d before after q → r ≡ number (revised_of [] q) → StoreIs d before after r
-revised_is {after = after} {q} s e = (e ∙ revised_number after q ∙ ap number s.is, s.bytes)
 
 -- ---- numbers of 64 bits that are handed on are read back
 

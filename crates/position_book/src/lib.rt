@@ -1,9 +1,10 @@
 // The exported calls. Each takes numbers and byte slices of any kind, and answers a number of document 01 with its values.
+#![tactic(auto)]
+
 ghost use Rattle.std.specs.Prelude.{◌≡◌};
 ghost use Rattle.operate.specs.Operate.{operate_alone};
 ghost use Rattle.table.specs.Compile.{compile_do};
 ghost use Rattle.book.specs.Calls.{fresh_do, feed_do, feed_line_do, save_do, restore_do};
-ghost use Rattle.revise.specs.Revise.{revise_do};
 ghost use Rattle.row.specs.Calls.{pair_do, hold_do, event_name_do};
 ghost use Rattle.row_blocks.specs.Blocks.{hold_block_do, pair_block_do, counts_do};
 ghost use Rattle.position_book_answer_alone.specs.Calls.{signal_do, SignalIs, operate_answer, name_do, NameIs};
@@ -20,7 +21,6 @@ use position_book_answer::{
 use position_book_answer_alone::{
     NameAnswer, OperateAnswer, SignalAnswer, operate_answer, operate_name, signal_answer,
 };
-use revise_book::revise;
 use row_blocks_holds::hold_rows;
 use row_blocks_pairs::pair_rows;
 use row_counts::row_counts;
@@ -117,15 +117,6 @@ pub extern "C" fn position_book_restore(table: &[u8], book: &mut [u8], image: &[
     ensures { StoreIs (restore_do table.now book.old image.now) book.old book.new result }
 {
     let r = restore(table, book, image);
-    r.number()
-}
-
-// Makes the book that of the bars which a list of bars with revisions has chosen, fed in rising instant.
-#[unsafe(no_mangle)]
-pub extern "C" fn position_book_revise(table: &[u8], book: &mut [u8], text: &[u8]) -> u32
-    ensures { StoreIs (revise_do table.now book.old text.now) book.old book.new result }
-{
-    let r = revise(table, book, text);
     r.number()
 }
 

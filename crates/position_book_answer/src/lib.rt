@@ -1,4 +1,6 @@
 // The answers of a feed, of requests for rows, blocks and counts, and of names as the structs that cross to the host: zeros where they are refused.
+#![tactic(auto)]
+
 ghost use Rattle.std.specs.Prelude.{◌≡◌, List, [], ℕ};
 ghost use Rattle.text.specs.Answer.{Refused, Got};
 ghost use Rattle.book.specs.Layout.{flag};
@@ -26,7 +28,7 @@ use row_pairs::PairRead;
 // What a feed says: the position after the bar (-1, 0 or 1), whether it changed, and what decided the bar: 0 nothing, 1 an event, 2 the stop,
 // 3 the timeout; the event's index where it is 1.
 #[repr(C)]
-#[derive(Drop)]
+#[derive(Clone, Copy)]
 pub struct FeedAnswer {
     pub number: u32,
     pub pos: i32,
@@ -38,7 +40,7 @@ pub struct FeedAnswer {
 // A pair row: 1 for L or -1 for S, both local times, both prices, the id difference, days, the yield where it is present, the lengths of symbol,
 // mark and sequence, and the lots opened.
 #[repr(C)]
-#[derive(Drop)]
+#[derive(Clone, Copy)]
 pub struct PairAnswer {
     pub number: u32,
     pub side: i32,
@@ -58,7 +60,7 @@ pub struct PairAnswer {
 
 // A hold row: its local time, -1, 0 or 1, its price, and the yield where it is present.
 #[repr(C)]
-#[derive(Drop)]
+#[derive(Clone, Copy)]
 pub struct HoldAnswer {
     pub number: u32,
     pub local: i64,
@@ -70,7 +72,7 @@ pub struct HoldAnswer {
 
 // A block of rows: how many they are, and the length of their bytes.
 #[repr(C)]
-#[derive(Drop)]
+#[derive(Clone, Copy)]
 pub struct BlockAnswer {
     pub number: u32,
     pub rows: usize,
@@ -79,7 +81,7 @@ pub struct BlockAnswer {
 
 // How many rows of each kind a book has.
 #[repr(C)]
-#[derive(Drop)]
+#[derive(Clone, Copy)]
 pub struct CountsAnswer {
     pub number: u32,
     pub holds: usize,

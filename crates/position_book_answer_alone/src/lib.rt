@@ -1,4 +1,6 @@
 // What a text or a code alone answers to the host: a signal, an operate, an operate's name, as the structs that cross. Zeros where they are refused.
+#![tactic(auto)]
+
 ghost use Rattle.std.specs.Prelude.{◌≡◌, ◌≤◌, length};
 ghost use Rattle.text.specs.Answer.{Refused, Got};
 ghost use Rattle.operate.specs.Operate.{operate_alone};
@@ -11,7 +13,7 @@ use text::put_part;
 
 // The length of a name.
 #[repr(C)]
-#[derive(Drop)]
+#[derive(Clone, Copy)]
 pub struct NameAnswer {
     pub number: u32,
     pub length: usize,
@@ -19,7 +21,7 @@ pub struct NameAnswer {
 
 // What a signal alone says: its score, and the lengths of its key and its three values.
 #[repr(C)]
-#[derive(Drop)]
+#[derive(Clone, Copy)]
 pub struct SignalAnswer {
     pub number: u32,
     pub score: u64,
@@ -31,7 +33,7 @@ pub struct SignalAnswer {
 
 // The code of an operate alone.
 #[repr(C)]
-#[derive(Drop)]
+#[derive(Clone, Copy)]
 pub struct OperateAnswer {
     pub number: u32,
     pub code: u32,

@@ -1,4 +1,6 @@
 // The machine's step: what an accepted bar does to the header, rule by rule, after the Rust's `update_profiled_with_signal_map`.
+#![tactic(auto)]
+
 ghost use Rattle.std.specs.Prelude.{◌≡◌};
 ghost use Rattle.position.specs.Step.{settle as Step·settle, held_lots, new_hold};
 ghost use Rattle.position_machine.specs.Update.{going_of};
@@ -10,14 +12,14 @@ use position::{Head, Hold, Pos, Record};
 pub mod step;
 
 // The record that a bar writes, if it writes one.
-#[derive(Drop)]
+#[derive(Clone, Copy)]
 pub enum Wrote {
     Nothing,
     One(Record),
 }
 
 // The header after a bar, the lots of its position, and what the bar wrote.
-#[derive(Drop)]
+#[derive(Clone, Copy)]
 pub struct Update {
     pub head: Head,
     pub lots: u16,

@@ -1,4 +1,6 @@
 // Whether the entries of a list of bars with revisions agree: each is compared with the first of its instant and revision.
+#![tactic(auto)]
+
 ghost use Rattle.std.specs.Prelude.{true, ◌≡◌, ◌<◌, length};
 ghost use Rattle.std.specs.Float.Ieee.Scale.{finite};
 ghost use Rattle.revise.specs.Places.{Kept};

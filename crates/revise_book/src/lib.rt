@@ -1,4 +1,6 @@
 // A list of bars with revisions, turned into a book: the checks in the order of document 02, then the chosen bars, fed.
+#![tactic(auto)]
+
 ghost use Rattle.std.specs.Prelude.{◌≡◌, true, [], ◌≤◌};
 ghost use Rattle.text.specs.Answer.{number};
 ghost use Rattle.table.specs.Table.{is_table};
@@ -17,7 +19,7 @@ use revise_entries::{BAR_LIMIT, EntriesRead, few_bars, read_entries};
 use revise_feed::feed_chosen;
 
 // What the call answers: done, or why the list is refused.
-#[derive(Drop)]
+#[derive(Clone, Copy)]
 pub enum Revised {
     Done,
     NotUtf8,

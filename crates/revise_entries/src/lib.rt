@@ -1,4 +1,6 @@
 // All entries of a list of bars with revisions, one after another: where each starts, its instant, its revision and the event that it chooses.
+#![tactic(auto)]
+
 ghost use Rattle.std.specs.Prelude.{◌≡◌, true, ◌<◌, ◌≤◌, leb, length};
 ghost use Rattle.std.proofs.Math.Seq.{slice};
 ghost use Rattle.text.specs.Read.{Part};
@@ -18,7 +20,7 @@ use utf8_text::TEXT_LIMIT;
 pub const BAR_LIMIT: usize = 900;
 
 // How many entries there are, or why the first that is refused is.
-#[derive(Drop)]
+#[derive(Clone, Copy)]
 pub enum EntriesRead {
     Count(usize),
     NotUtf8,
@@ -30,7 +32,7 @@ pub enum EntriesRead {
 }
 
 // Where the next entry starts, or what the whole list says.
-#[derive(Drop)]
+#[derive(Clone, Copy)]
 enum Added {
     Next(usize),
     Stop(EntriesRead),

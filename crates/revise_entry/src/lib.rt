@@ -1,4 +1,6 @@
 // One entry of a list of bars with revisions: its bar's line, its S lines as a bar's signals, and the event that these choose.
+#![tactic(auto)]
+
 ghost use Rattle.std.specs.Prelude.{◌≡◌, true, ◌<◌, ◌≤◌, length};
 ghost use Rattle.bar.specs.Bar.{time_ok};
 ghost use Rattle.table.specs.Table.{is_table};
@@ -12,7 +14,7 @@ use revise_match::match_code;
 use revise_signals::{Taken, take_signals};
 
 // An entry that was read: its bar and revision, the number of the event that its signals choose, and where it ends.
-#[derive(Drop)]
+#[derive(Clone, Copy)]
 pub struct EntryRead {
     pub bar: Bar,
     pub revision: u32,
@@ -21,7 +23,7 @@ pub struct EntryRead {
 }
 
 // What an entry says, or why it is refused.
-#[derive(Drop)]
+#[derive(Clone, Copy)]
 pub enum Entry {
     Is(EntryRead),
     NotUtf8,

@@ -1,4 +1,6 @@
 // The chosen entries of a list of bars with revisions, fed to a fresh book one after another.
+#![tactic(auto)]
+
 ghost use Rattle.std.specs.Prelude.{◌≡◌, true, ◌<◌};
 ghost use Rattle.le.specs.Field.{u32 as Field·u32};
 ghost use Rattle.table.specs.Table.{is_table};

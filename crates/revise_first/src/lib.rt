@@ -1,4 +1,6 @@
 // A bar's line with its revision: what it says, or why it is refused.
+#![tactic(auto)]
+
 ghost use Rattle.std.specs.Prelude.{◌≡◌, ◌≤◌, length};
 ghost use Rattle.std.proofs.Math.Seq.{slice};
 ghost use Rattle.text.specs.Read.{Part};
@@ -14,14 +16,14 @@ use text::{LF, PIPE, count_parts};
 use text_number::{Number, decimal};
 
 // A bar with its revision.
-#[derive(Drop)]
+#[derive(Clone, Copy)]
 pub struct Revised {
     pub bar: Bar,
     pub revision: u32,
 }
 
 // What a bar's line says, or why it is refused.
-#[derive(Drop)]
+#[derive(Clone, Copy)]
 pub enum FirstLine {
     Is(Revised),
     Malformed,
@@ -30,7 +32,7 @@ pub enum FirstLine {
 }
 
 // A revision, or none.
-#[derive(Drop)]
+#[derive(Clone, Copy)]
 enum RevisionRead {
     Is(u32),
     Bad,

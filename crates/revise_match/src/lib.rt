@@ -1,4 +1,6 @@
 // The event that an entry's signals choose, kept as a number until the entry is fed.
+#![tactic(auto)]
+
 ghost use Rattle.std.specs.Prelude.{◌≡◌, true};
 ghost use Rattle.event_find.specs.Places.{lines_at, LinesOk};
 ghost use Rattle.table.specs.Table.{is_table};

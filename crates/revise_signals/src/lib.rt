@@ -1,4 +1,6 @@
 // The S lines of an entry, without `S|`, one after another.
+#![tactic(auto)]
+
 ghost use Rattle.std.specs.Prelude.{◌≤◌, ◌≡◌, length};
 ghost use Rattle.utf8.specs.Alone.{text_limit};
 ghost use Rattle.revise_signals.specs.Taken.{TakenAs};
@@ -7,7 +9,7 @@ use revise_line::{is_signal, line_end};
 use text::put_part;
 
 // Where the S lines end, and how many bytes they have without `S|`; or they have too many.
-#[derive(Drop)]
+#[derive(Clone, Copy)]
 pub enum Taken {
     Lines(usize, usize),
     PastLimit,

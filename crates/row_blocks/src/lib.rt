@@ -1,17 +1,19 @@
 // Blocks of rows (beyond 01): what a request for many rows of a book, or for their counts, answers. The rules are definitions (specs/).
+#![tactic(auto)]
+
 ghost use Rattle.std.specs.Prelude.{◌≡◌};
 ghost use Rattle.text.specs.Answer.{number};
 ghost use Rattle.row_blocks.specs.Read.{block_read_of, counts_read_of};
 
 // How many rows were written, and the length of their bytes.
-#[derive(Drop)]
+#[derive(Clone, Copy)]
 pub struct Block {
     pub rows: usize,
     pub length: usize,
 }
 
 // What a request for a block of rows answers: the block, or why it is refused.
-#[derive(Drop)]
+#[derive(Clone, Copy)]
 pub enum BlockRead {
     Rows(Block),
     WrongLength,
@@ -36,14 +38,14 @@ impl BlockRead {
 }
 
 // How many rows of each kind a book has.
-#[derive(Drop)]
+#[derive(Clone, Copy)]
 pub struct RowCounts {
     pub holds: usize,
     pub pairs: usize,
 }
 
 // What a request for the counts answers: them, or why it is refused.
-#[derive(Drop)]
+#[derive(Clone, Copy)]
 pub enum CountsRead {
     Counts(RowCounts),
     WrongLength,

@@ -1,4 +1,6 @@
 // Blocks of hold rows: one check, then one pass over the holds.
+#![tactic(auto)]
+
 ghost use Rattle.std.specs.Prelude.{◌≡◌, ◌+◌, ◌<◌, ◌≤◌, length, drop};
 ghost use Rattle.le.specs.Field.{u32};
 ghost use Rattle.text.specs.Read.{Put};

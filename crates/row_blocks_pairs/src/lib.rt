@@ -1,4 +1,6 @@
 // Blocks of pair rows: one check, then one walk over the records. Each row is made in a buffer of its own, and copied where it fits.
+#![tactic(auto)]
+
 ghost use Rattle.std.specs.Prelude.{◌≡◌, true, map, ◌+◌, ◌<◌, ◌≤◌, length};
 ghost use Rattle.le.specs.Field.{u32};
 ghost use Rattle.table.specs.Layout.{counts_in, parts_in};
@@ -18,7 +20,7 @@ use row_pairs::{FoundPair, ROW_BUFFER, find_pair, pair_at};
 pub const PAIR_ROW_LIMIT: usize = PAIR_NUMBERS + ROW_BUFFER;
 
 // The place behind a row that was written, or that it does not fit.
-#[derive(Drop)]
+#[derive(Clone, Copy)]
 enum Added {
     Next(usize),
     Full,

@@ -1,4 +1,6 @@
 // Code only: how many hold rows and pair rows a book has.
+#![tactic(auto)]
+
 ghost use Rattle.std.specs.Prelude.{◌≡◌, ◌+◌, ◌≤◌, length};
 ghost use Rattle.le.specs.Field.{u32};
 ghost use Rattle.sheet.specs.Sheet.{Sheet};

@@ -1,4 +1,6 @@
 // Hold rows.
+#![tactic(auto)]
+
 ghost use Rattle.std.specs.Prelude.{◌≡◌, true};
 ghost use Rattle.text.specs.Answer.{given, number};
 ghost use Rattle.bar.specs.Bar.{time_ok};
@@ -17,7 +19,7 @@ use le::get_u32;
 use position::{Hold, HoldRow};
 
 // What a request for a hold row answers: the row, or why it is refused.
-#[derive(Drop)]
+#[derive(Clone, Copy)]
 pub enum HoldRead {
     Row(HoldRow),
     WrongLength,

@@ -1,4 +1,6 @@
 // The texts of an accepted table that rows show: the position's name and symbol, and the names of its events.
+#![tactic(auto)]
+
 ghost use Rattle.std.specs.Prelude.{◌≡◌, true, ◌<◌, ◌≤◌, length};
 ghost use Rattle.text.specs.Answer.{number};
 ghost use Rattle.sheet.specs.Sheet.{name_limit};
@@ -13,7 +15,7 @@ use table_check::is_table;
 use text::put_part;
 
 // What a request for an event's name answers: its length, or why it is refused.
-#[derive(Drop)]
+#[derive(Clone, Copy)]
 pub enum NameRead {
     Length(usize),
     WrongLength,

@@ -1,4 +1,6 @@
 // Pair rows.
+#![tactic(auto)]
+
 ghost use Rattle.std.specs.Prelude.{◌≡◌, true, cond, ◌+◌, ◌<◌, ◌≤◌, eqb, length};
 ghost use Rattle.le.specs.Field.{u32};
 ghost use Rattle.text.specs.Answer.{given, number};
@@ -37,7 +39,7 @@ pub const ROW_BUFFER: usize = 2048;
 const OPERATE: usize = 24;
 
 // What a request for a pair row answers: the row, or why it is refused.
-#[derive(Drop)]
+#[derive(Clone, Copy)]
 pub enum PairRead {
     Row(PairRow),
     WrongLength,
@@ -62,7 +64,7 @@ impl PairRead {
 }
 
 // The number of the record with which a pair starts, or none.
-#[derive(Drop)]
+#[derive(Clone, Copy)]
 pub enum FoundPair {
     At(usize),
     Nowhere,

@@ -2,7 +2,7 @@
 use Prim.Native.Nat.{ℕ, ◌+◌, ◌*◌, ◌≤◌}
 use native.Mathlib.Omega.{arith}
 use mathlib.Core.Path.{◌≡◌, refl}
-use mathlib.Core.Bool.{true, false, or_true}
+use mathlib.Core.Bool.{true, false, or-true}
 use mathlib.Core.List.{List, [], ◌∷◌, ◌++◌}
 use lib.Dec.{eqb}
 use lib.ListN.{length, length-append}
@@ -51,7 +51,7 @@ module _ (d : List ℕ) {a b : List ℕ} {at p : ℕ} (h : length d ≤ name_lim
 has-at : (x y z : List ℕ) → has 64 (x ++ bytes "@" ++ y ++ z) ≡ true
 unfolding has bytes encoded
 has-at [] y z = refl
-has-at (b ∷ x) y z = rw (has-at x y z) (or_true (eqb b 64))
+has-at (b ∷ x) y z = rw (has-at x y z) (or-true (eqb b 64))
 
 kept : (x y z : List ℕ) → x ++ bytes "@" ++ y ++ z ≡ sequence_part (x ++ bytes "@" ++ y ++ z)
 unfolding sequence_part

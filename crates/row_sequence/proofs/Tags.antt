@@ -3,7 +3,7 @@ use Prim.Native.Nat.{ℕ, ◌<◌, ◌≤◌}
 use native.Mathlib.Omega.{arith}
 use mathlib.Core.Path.{◌≡◌, ◌∙◌, refl, sym}
 use mathlib.Core.Logic.{◌≢◌}
-use mathlib.Core.Bool.{Bool, true, false, cond, ◌&&◌, and-true, and_false, and_assoc}
+use mathlib.Core.Bool.{Bool, true, false, cond, ◌&&◌, and-true, and-false, and_assoc}
 use mathlib.Core.List.{List, [], ◌∷◌, ◌++◌}
 use borrow.Author.Tests.{eq-eqb, ne_eqb}
 use lib.Dec.{eqb}
@@ -23,7 +23,7 @@ unfolding begins
 begins-not [] [] x h = refl
 begins-not [] (y ∷ d) x h = absurd (omega arith)
 begins-not (a ∷ s) [] x h = refl
-begins-not (a ∷ s) (y ∷ d) x h = rw (begins-not s d x (omega arith)) (and_false (eqb a y))
+begins-not (a ∷ s) (y ∷ d) x h = rw (begins-not s d x (omega arith)) (and-false (eqb a y))
 
 -- a longer one
 begins-is : (s d : List ℕ) (x : ℕ) → length s < length d → begins (s ++ x ∷ []) d ≡ (same s (take (length s) d) && eqb x (get_or d (length s) 0))
@@ -40,7 +40,7 @@ module _ (s d : List ℕ) where
   module _ (h : length s < length d) where
     pub starts_other : get_or d (length s) 0 ≢ 35 → false ≡ begins (s ++ bytes "#") d
     unfolding bytes encoded
-    starts_other n = sym (begins-is s d 35 h ∙ rw (ne_eqb 35 (get_or d (length s) 0) (λ e. n (sym e))) (and_false (same s (take (length s) d))))
+    starts_other n = sym (begins-is s d 35 h ∙ rw (ne_eqb 35 (get_or d (length s) 0) (λ e. n (sym e))) (and-false (same s (take (length s) d))))
 
     pub starts-same : get_or d (length s) 0 ≡ 35 → same (slice 0 (length s) s) (slice 0 (length s) d) ≡ begins (s ++ bytes "#") d
     unfolding bytes encoded

@@ -1,4 +1,6 @@
 // The sequence text of a pair row: both records' descriptions, joined by ` -> `.
+#![tactic(auto)]
+
 ghost use Rattle.std.specs.Prelude.{◌≡◌, true, [], ◌++◌, ◌+◌, ◌<◌, ◌≤◌, length, get_or};
 ghost use Rattle.text.specs.Literal.{bytes};
 ghost use Rattle.text.specs.Text.{begins};

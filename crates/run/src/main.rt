@@ -1,4 +1,6 @@
 // Code only: the run program: reads a sheet, a line `-` and bars from standard input, and prints what each bar and the book then say.
+#![tactic(auto)]
+
 ghost use Rattle.std.specs.Prelude.{◌≡◌, length};
 
 use libc::{STDIN_FILENO, STDOUT_FILENO};

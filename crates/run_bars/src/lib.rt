@@ -1,4 +1,6 @@
 // The run program's bars: a fresh book is fed with the lines behind `-`, and what is said of each is printed, then the book's rows.
+#![tactic(auto)]
+
 ghost use Rattle.run_bars.specs.Steps.{Begun, RanAs};
 
 use book::{ENTRY_LENGTH, HEAD_LENGTH};

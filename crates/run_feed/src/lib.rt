@@ -1,4 +1,6 @@
 // The run program's bars: each line is read, and each bar is fed with its signals and printed.
+#![tactic(auto)]
+
 ghost use Rattle.std.specs.Prelude.{◌+◌, ◌<◌, ◌≤◌, length, take};
 ghost use Rattle.text.specs.Read.{FirstAt};
 ghost use Rattle.text.specs.Text.{LF};
@@ -12,14 +14,14 @@ use run_input::{InputLine, read_line};
 use text::{LF, find, put_part};
 
 // The bar that waits for its signals, or none before the first bar.
-#[derive(Drop)]
+#[derive(Clone, Copy)]
 enum Waiting {
     Bar(BarNumbers),
     Nothing,
 }
 
 // What waits, how many bytes its signals have, and how many were printed.
-#[derive(Drop)]
+#[derive(Clone, Copy)]
 struct Progress {
     waiting: Waiting,
     signals: usize,
@@ -27,14 +29,14 @@ struct Progress {
 }
 
 // What a line leaves, or why it is refused.
-#[derive(Drop)]
+#[derive(Clone, Copy)]
 enum Taken {
     Next(Progress),
     Refused(u32),
 }
 
 // How many bytes were printed, or why the input is refused.
-#[derive(Drop)]
+#[derive(Clone, Copy)]
 pub enum Ran {
     Printed(usize),
     Refused(u32),

@@ -1,4 +1,6 @@
 // The fields of the lines that the run program prints, written to a buffer: numbers, doubles, yields, sides, texts.
+#![tactic(auto)]
+
 ghost use Rattle.std.specs.Prelude.{[], ◌∷◌, ◌++◌, not, ◌+◌, ◌-◌, ◌≤◌, T, length};
 ghost use Rattle.std.specs.Float.Ieee.{is_nan};
 ghost use Rattle.std.proofs.Math.Seq.{slice};

@@ -1,4 +1,6 @@
 // The run program's input: where the line `-` stands, and what each line behind it says.
+#![tactic(auto)]
+
 ghost use Rattle.std.specs.Prelude.{◌≡◌, ◌≤◌, length};
 ghost use Rattle.std.specs.Float.{binary64};
 ghost use Rattle.std.specs.Float.Ieee.{of_bits};
@@ -14,21 +16,21 @@ use text::{LF, PIPE, count_parts, find, part_eq};
 use text_number::{Number, decimal, read_hex};
 
 // Where the line `-` starts, or none.
-#[derive(Drop)]
+#[derive(Clone, Copy)]
 pub enum Dash {
     At(usize),
     Nowhere,
 }
 
 // A whole number that was read, or none.
-#[derive(Drop)]
+#[derive(Clone, Copy)]
 enum Whole {
     Is(i64),
     Bad,
 }
 
 // What a line says: a bar, one of its signals, or why it is refused.
-#[derive(Drop)]
+#[derive(Clone, Copy)]
 pub enum InputLine {
     Bar(BarNumbers),
     Signal,

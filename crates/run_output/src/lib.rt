@@ -1,4 +1,6 @@
 // The lines that the run program prints, written to a buffer: a feed, a pair row, a hold row, a refusal.
+#![tactic(auto)]
+
 ghost use Rattle.std.specs.Prelude.{[], ◌∷◌, not, ◌+◌, ◌-◌, ◌≤◌, T, length};
 ghost use Rattle.std.specs.Float.Ieee.{is_nan};
 ghost use Rattle.le.specs.Le.{part};

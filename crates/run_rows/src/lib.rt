@@ -1,4 +1,6 @@
 // All rows of a book as the run program prints them: its pairs, then its holds.
+#![tactic(auto)]
+
 ghost use Rattle.std.specs.Prelude.{◌+◌, ◌*◌, ◌≤◌, length};
 ghost use Rattle.position.specs.Run.{run_bars};
 ghost use Rattle.run_fields.specs.Fields.{ShortPut};
@@ -10,7 +12,7 @@ use row_pairs::{PairRead, ROW_BUFFER, pair_row};
 use run_output::{HOLD_ROOM, PAIR_ROOM, put_hold, put_pair};
 
 // The place behind a row that was printed, or that there is none.
-#[derive(Drop)]
+#[derive(Clone, Copy)]
 enum Added {
     Next(usize),
     NoRow,

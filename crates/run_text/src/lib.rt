@@ -1,4 +1,6 @@
 // Code only: the run program's work: from the bytes of its input to the bytes that it prints.
+#![tactic(auto)]
+
 ghost use Rattle.std.specs.Prelude.{◌≡◌, ◌≤◌, length, replicate};
 ghost use Rattle.text.specs.Read.{Put};
 ghost use Rattle.position.specs.Run.{run_do};

@@ -3,6 +3,8 @@
 // What is kept are numbers: places in the text, six numbers for each event and nine for each clause.
 
 // The most events and clauses of a sheet.
+#![tactic(auto)]
+
 pub const EVENT_LIMIT: usize = 32;
 
 pub const CLAUSE_LIMIT: usize = 256;
@@ -32,7 +34,7 @@ pub const EVENT_NUMBERS: usize = 6;
 pub const CLAUSE_NUMBERS: usize = 9;
 
 // A sheet that was read: the places behind the name and behind the symbol, the settings, and how many events and clauses there are.
-#[derive(Drop)]
+#[derive(Clone, Copy)]
 pub struct SheetAt {
     pub name: usize,
     pub symbol: usize,
@@ -46,7 +48,7 @@ pub struct SheetAt {
 }
 
 // What a text says as a sheet, or why it is refused.
-#[derive(Drop)]
+#[derive(Clone, Copy)]
 pub enum SheetRead {
     Is(SheetAt),
     PastLimit,

@@ -1,4 +1,6 @@
 // A clause's line of a position sheet.
+#![tactic(auto)]
+
 ghost use Rattle.std.specs.Prelude.{◌≡◌, ◌≤◌, length};
 ghost use Rattle.text.specs.Read.{Part};
 ghost use Rattle.utf8.specs.Alone.{text_limit};

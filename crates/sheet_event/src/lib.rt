@@ -1,4 +1,6 @@
 // An event's line of a position sheet.
+#![tactic(auto)]
+
 ghost use Rattle.std.specs.Prelude.{◌≡◌, suc, ◌≤◌, length};
 ghost use Rattle.text.specs.Read.{Part};
 ghost use Rattle.utf8.specs.Alone.{text_limit};
@@ -14,7 +16,7 @@ use text::{PIPE, count_parts, find};
 use text_number::{Number, decimal};
 
 // The lots of an event, or why they are refused.
-#[derive(Drop)]
+#[derive(Clone, Copy)]
 enum Lots {
     Are(u64),
     NoNumber,

@@ -1,4 +1,6 @@
 // A position sheet's first line: its name, its symbol and the settings.
+#![tactic(auto)]
+
 ghost use Rattle.std.specs.Prelude.{◌≡◌, ◌+◌, ◌≤◌, length};
 ghost use Rattle.std.proofs.Math.Seq.{slice};
 ghost use Rattle.text.specs.Number.{at_most, digits_to};

@@ -1,5 +1,7 @@
 // The numbers of a sheet that is read: those of one event or one clause more, written behind the others'. Each fits 16 bits: a text has at
 // most 16,384 bytes.
+#![tactic(auto)]
+
 ghost use Rattle.std.specs.Prelude.{◌≡◌, [], ◌∷◌, ◌+◌, ◌*◌, ◌<◌, ◌≤◌, length};
 ghost use Rattle.le.specs.Le.{patch};
 ghost use Rattle.sheet.specs.Places.{event_number};

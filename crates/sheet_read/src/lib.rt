@@ -1,4 +1,6 @@
 // Reading a position sheet: its first line, and each later one by its tag.
+#![tactic(auto)]
+
 ghost use Rattle.std.specs.Prelude.{◌≡◌, ◌≤◌, length};
 ghost use Rattle.text.specs.Read.{Part};
 ghost use Rattle.utf8.specs.Alone.{text_limit};

@@ -1,4 +1,6 @@
 // Signals, their keys, and a bar's values.
+#![tactic(auto)]
+
 ghost use Rattle.std.specs.Prelude.{◌≡◌, ◌+◌, ◌-◌, ◌<◌, ◌≤◌, length};
 ghost use Rattle.std.proofs.Math.Seq.{slice};
 ghost use Rattle.text.specs.Text.{same};
@@ -15,14 +17,14 @@ use utf8_text::Alone;
 pub const SCORE_LIMIT: u64 = 1_000;
 
 // The places of three underscores, one behind each of three parts, or too few parts.
-#[derive(Drop)]
+#[derive(Clone, Copy)]
 enum Three {
     At(usize, usize, usize),
     Few,
 }
 
 // A signal that was read: the place behind each part but the score, where its underscore stands, and the score.
-#[derive(Drop)]
+#[derive(Clone, Copy)]
 pub struct SignalAt {
     pub k1: usize,
     pub k2: usize,
@@ -34,7 +36,7 @@ pub struct SignalAt {
 }
 
 // What a text says as a signal.
-#[derive(Drop)]
+#[derive(Clone, Copy)]
 pub enum SignalRead {
     Is(SignalAt),
     NotSeven,
@@ -42,7 +44,7 @@ pub enum SignalRead {
 }
 
 // What a text that stands alone says as a signal, or why it is refused.
-#[derive(Drop)]
+#[derive(Clone, Copy)]
 pub enum SignalAlone {
     Alone(SignalAt),
     TooLong,
@@ -53,7 +55,7 @@ pub enum SignalAlone {
 }
 
 // A value that was read: the place behind each of its three parts, and the score.
-#[derive(Drop)]
+#[derive(Clone, Copy)]
 pub struct ValueAt {
     pub v1: usize,
     pub v2: usize,
@@ -62,14 +64,14 @@ pub struct ValueAt {
 }
 
 // What a text says as a bar's value.
-#[derive(Drop)]
+#[derive(Clone, Copy)]
 pub enum ValueRead {
     Counts(ValueAt),
     Absent,
 }
 
 // The end of a key that is being written, and whether it has a part already.
-#[derive(Drop)]
+#[derive(Clone, Copy)]
 pub struct KeyEnd {
     pub at: usize,
     pub some: bool,

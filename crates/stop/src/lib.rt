@@ -1,4 +1,6 @@
 // Stops in basis points with up to two decimals, kept as hundredths: read from a field, written as a text, and as a double.
+#![tactic(auto)]
+
 ghost use Rattle.std.specs.Prelude.{◌≡◌, ◌+◌, ◌^◌, ◌≤◌, length};
 ghost use Rattle.std.proofs.Math.Seq.{slice};
 ghost use Rattle.text.specs.Number.{at_most};

@@ -1,5 +1,7 @@
 // The compiled table: the values of its header and of its rows, and reading them. Which bytes are a table and which sheet they mean
 // are definitions (specs/).
+#![tactic(auto)]
+
 ghost use Rattle.std.specs.Prelude.{◌≡◌, ◌+◌, ◌*◌, ◌≤◌, length};
 ghost use Rattle.table.specs.Layout.{head_length, event_length, clause_length, word_length, layout_in, settings_in, counts_in, places_in};
 ghost use Rattle.table.specs.Read.{EventAt, ClauseAt, WordAt};
@@ -24,7 +26,7 @@ pub const LAYOUT_NUMBER: u32 = 0xff00_0002;
 pub const WILD_CODE: usize = 65535;
 
 // The settings of a position.
-#[derive(Drop)]
+#[derive(Clone, Copy)]
 pub struct Settings {
     pub interval: u32,
     pub timeout: u32,
@@ -34,7 +36,7 @@ pub struct Settings {
 }
 
 // How many rows of each kind there are, and the lengths of the position's name and symbol.
-#[derive(Drop)]
+#[derive(Clone, Copy)]
 pub struct Counts {
     pub events: u32,
     pub clauses: u32,
@@ -45,7 +47,7 @@ pub struct Counts {
 }
 
 // Where the rows of each kind start, then the texts: the position's, the events' names, the keys, the values; and the end.
-#[derive(Drop)]
+#[derive(Clone, Copy)]
 pub struct Places {
     pub events: u32,
     pub clauses: u32,
@@ -60,7 +62,7 @@ pub struct Places {
 
 // An event: its kind (0 opening or 1 exit, and twice the lots beyond the first), its operate, where its name stands, and its clauses among all
 // clauses.
-#[derive(Drop)]
+#[derive(Clone, Copy)]
 pub struct EventRow {
     pub kind: u16,
     pub operate: u16,
@@ -71,7 +73,7 @@ pub struct EventRow {
 }
 
 // A clause: 0 all, 1 any or 2 not, the number of its key, the codes of its values, its score.
-#[derive(Drop)]
+#[derive(Clone, Copy)]
 pub struct ClauseRow {
     pub kind: u16,
     pub key: u16,
@@ -82,7 +84,7 @@ pub struct ClauseRow {
 }
 
 // A key or a value: where its text stands; its rank among the texts; and the number of the text that has this row's number as its rank.
-#[derive(Drop)]
+#[derive(Clone, Copy)]
 pub struct WordRow {
     pub at: u16,
     pub len: u16,

@@ -1,4 +1,6 @@
 // Whether bytes are a table.
+#![tactic(auto)]
+
 ghost use Rattle.std.specs.Prelude.{◌≡◌, true};
 ghost use Rattle.table.specs.Layout.{parts_in};
 ghost use Rattle.table.specs.Table.{is_table};

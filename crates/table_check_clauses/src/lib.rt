@@ -1,4 +1,6 @@
 // Whether the clauses of a table are right, row by row.
+#![tactic(auto)]
+
 ghost use Rattle.std.specs.Prelude.{◌≡◌, ◌*◌, ◌≤◌, ◌<◌, length};
 ghost use Rattle.table.specs.Layout.{clause_length};
 ghost use Rattle.table.specs.Table.{code_ok, clause_ok, clauses_ok};
@@ -8,14 +10,14 @@ use signal::SCORE_LIMIT;
 use table::{ClauseRow, WILD_CODE, clause_at};
 
 // How many numbers are used after one use more; or that use skipped one.
-#[derive(Drop)]
+#[derive(Clone, Copy)]
 enum Used {
     Seen(usize),
     Skip,
 }
 
 // How many keys and values are used after one clause more; or that clause is wrong.
-#[derive(Drop)]
+#[derive(Clone, Copy)]
 enum Step {
     On(usize, usize),
     Stop,

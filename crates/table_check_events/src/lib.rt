@@ -1,4 +1,6 @@
 // Whether the events of a table are right, row by row.
+#![tactic(auto)]
+
 ghost use Rattle.std.specs.Prelude.{◌≡◌, true, ◌*◌, ◌≤◌, length, drop};
 ghost use Rattle.table_words.specs.Words.{clean};
 ghost use Rattle.table.specs.Layout.{event_length};
@@ -10,7 +12,7 @@ use table::{EventRow, event_at};
 use table_words::is_cut;
 
 // Where the next event's name and clauses must start; or this event is wrong.
-#[derive(Drop)]
+#[derive(Clone, Copy)]
 enum Step {
     On(usize, usize),
     Stop,

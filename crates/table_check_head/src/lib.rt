@@ -1,4 +1,6 @@
 // Whether the header of a table is right: its settings, its counts and its places.
+#![tactic(auto)]
+
 ghost use Rattle.std.specs.Prelude.{◌≡◌, ◌+◌, ◌<◌, eqb};
 ghost use Rattle.table.specs.Table.{settings_ok, counts_ok, places_ok, head_ok};
 ghost use Rattle.table_check_head.specs.Check.{Few};

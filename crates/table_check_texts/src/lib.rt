@@ -1,4 +1,6 @@
 // Whether the texts of a table are clean, all at one look.
+#![tactic(auto)]
+
 ghost use Rattle.std.specs.Prelude.{◌≡◌, [], ◌∷◌};
 ghost use Rattle.table.specs.Layout.{parts_in};
 ghost use Rattle.table.specs.Read.{Headed};

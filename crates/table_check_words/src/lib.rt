@@ -1,4 +1,6 @@
 // Whether the keys, or the values, of a table are right: laid one after another in their texts, of few parts, and distinct.
+#![tactic(auto)]
+
 ghost use Rattle.std.specs.Prelude.{◌≡◌, true, false, ◌*◌, ◌≤◌, ◌<◌, length, drop};
 ghost use Rattle.text.specs.Conditions.{all_of};
 ghost use Rattle.table_words.specs.Words.{clean, less, ascending};

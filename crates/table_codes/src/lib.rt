@@ -1,4 +1,6 @@
 // The numbers that a sheet's keys have in a table. Each key is noted once, in a wordbook of its own, in the order of first use.
+#![tactic(auto)]
+
 ghost use Rattle.std.specs.Prelude.{◌≡◌, ◌+◌, ◌*◌, ◌/◌, ◌≤◌, length, drop};
 ghost use Rattle.sheet.specs.Places.{clause_numbers, signal_at};
 ghost use Rattle.table_codes.specs.Read.{clause_in, RowOk, RowsOk, Room, Open, KeyAdded, KeysNoted};

@@ -1,4 +1,6 @@
 // Code only: the codes that a sheet's values have in a table. Each value is noted once, in a wordbook of its own, in the order of first use.
+#![tactic(auto)]
+
 ghost use Rattle.std.specs.Prelude.{◌+◌, ◌*◌, ◌/◌, length};
 ghost use Rattle.std.proofs.Math.Seq.{slice};
 ghost use Rattle.text.specs.Read.{Part};

@@ -1,5 +1,7 @@
 // Compiling a position sheet into a table: the sheet is read, its keys and values are noted, and then, when nothing can be refused any
 // more, the table is written.
+#![tactic(auto)]
+
 ghost use Rattle.std.specs.Prelude.{◌≡◌, length};
 ghost use Rattle.sheet.specs.Places.{sheet_at};
 ghost use Rattle.table.specs.Layout.{table_length};
@@ -15,7 +17,7 @@ use table_codes_values::note_values;
 use table_write::put_table;
 
 // What compiling answers: done, or why the text or the table is refused.
-#[derive(Drop)]
+#[derive(Clone, Copy)]
 pub enum Outcome {
     Done,
     WrongLength,

@@ -3,7 +3,7 @@ use Prim.Native.Nat.{ℕ, zero, suc, ◌+◌, ◌-◌, ◌<◌, ◌≤◌}
 use native.Mathlib.Omega.{arith}
 use mathlib.Core.Path.{◌≡◌, ◌∙◌, refl, sym, ap}
 use mathlib.Core.Logic.{◌≢◌}
-use mathlib.Core.Bool.{Bool, true, false, false≢true, ◌&&◌, or_true, or_false}
+use mathlib.Core.Bool.{Bool, true, false, false≢true, ◌&&◌, or-true, or-false}
 use mathlib.Core.List.{List, []}
 use mathlib.Core.Option.{Option, none, some}
 use borrow.Author.Tests.{leb-true, ltb-true, lt-leb, eq-eqb, ne_eqb}
@@ -57,7 +57,7 @@ module _ (own : ℕ) {score : Int} {m : ℕ} where
 -- ---- `agrees`
 
 pub agree_wild : (vs : List (List ℕ)) (v : List ℕ) {code : ℕ} → code ≡ wild_code → true ≡ agrees (text_at vs code) v
-agree_wild vs v e = rw (eq-eqb _ _ e, same_refl wildcard) (sym (or_true (same wildcard v)))
+agree_wild vs v e = rw (eq-eqb _ _ e, same_refl wildcard) (sym (or-true (same wildcard v)))
 
 module _ (t : List ℕ) (ok : is_table t ≡ true) {code : ℕ} (c : CodeIn t code) (n : code ≢ wild_code) where
   known : leb 1 code && leb code (counts_in t).values ≡ true
@@ -80,7 +80,7 @@ module _ (t : List ℕ) (ok : is_table t ≡ true) {code : ℕ} (c : CodeIn t co
       go false e = absurd (false≢true e)
 
   pub agree-text : (own v : List ℕ) {b : Bool} → own ≡ get_or (values_of t) (code - 1) [] → b ≡ same (slice 0 (length own) own) v → b ≡ agrees (text_at (values_of t) code) v
-  agree-text own v e h = rw (ne_eqb code wild_code n, value-plain t ok (code - 1) code_high, or_false, ← e) (rw (part_end 0 own) at h)
+  agree-text own v e h = rw (ne_eqb code wild_code n, value-plain t ok (code - 1) code_high, or-false, ← e) (rw (part_end 0 own) at h)
 
 -- ---- `meets`
 

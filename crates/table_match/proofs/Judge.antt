@@ -3,7 +3,7 @@ use Prim.Native.Nat.{ℕ, zero, suc, ◌+◌, ◌-◌, ◌<◌, ◌≤◌}
 use native.Mathlib.Omega.{arith}
 use mathlib.Core.Path.{◌≡◌, ◌∙◌, refl, sym, ap}
 use mathlib.Core.Logic.{◌≢◌}
-use mathlib.Core.Bool.{Bool, true, false, not, cond, ◌&&◌, ◌||◌, and_false, or_false}
+use mathlib.Core.Bool.{Bool, true, false, not, cond, ◌&&◌, ◌||◌, and-false, or-false}
 use mathlib.Core.List.{List, [], ◌∷◌}
 use borrow.Author.Tests.{eq-eqb, ne_eqb}
 use lib.Dec.{eqb}
@@ -56,7 +56,7 @@ module _ (f : Signal → Bool) where
   left_held (suc (suc (suc k))) c cs h e = absurd (omega arith)
 
   left_not : (k : ℕ) (c : Signal) (cs : List Signal) → k < 3 → f c ≡ false → left k f (c ∷ cs) ≡ left (cond (eqb k 0) 1 k) f cs
-  left_not zero c cs h e = or_false (any_of f (c ∷ cs)) ∙ any_not c cs e
+  left_not zero c cs h e = or-false (any_of f (c ∷ cs)) ∙ any_not c cs e
   left_not (suc zero) c cs h e = any_not c cs e
   left_not (suc (suc zero)) c cs h e = refl
   left_not (suc (suc (suc k))) c cs h e = absurd (omega arith)
@@ -81,7 +81,7 @@ module _ (f : Signal → Bool) where
         → cond (eqb (step_of k kind held) 3) false (J (step_of k kind held))
         ≡ open_event k f (cond (is_kind All kind) (c ∷ all) all) (cond (is_kind Any kind) (c ∷ any) any) (cond (is_kind Not kind) (c ∷ nay) nay)
     turn All true e = goes k h ∙ rw (all_held c all e)
-    turn All false e = rw (all-not c all e, and_false (not (any_of f nay)))
+    turn All false e = rw (all-not c all e, and-false (not (any_of f nay)))
     turn Any true e = goes 2 (omega arith) ∙ rw (left_held k c any h e)
     turn Any false e = goes (cond (eqb k 0) 1 k) (low k h) ∙ rw (left_not k c any h e)
     turn Not true e = rw (any_held c nay e)

@@ -2,6 +2,8 @@
 //
 // A function that asks for a table `t` asks for one that was accepted. The bar's signals are the text `s` with the places and
 // fingerprints of its n lines, as `event_signals::read_signals` leaves them.
+#![tactic(auto)]
+
 ghost use Rattle.std.specs.Prelude.{◌≡◌, true, ◌&&◌, [], ◌<◌, ◌≤◌, length, get_or};
 ghost use Rattle.std.proofs.Math.Seq.{slice};
 ghost use Rattle.text.specs.Read.{Part};
@@ -24,7 +26,7 @@ use text::part_eq;
 use text_number::Int;
 
 // The number of the event that is chosen, or none.
-#[derive(Drop)]
+#[derive(Clone, Copy)]
 pub enum Match {
     Event(usize),
     Nothing,

@@ -1,4 +1,6 @@
 // The texts of a table: which may stand in it, and where one may be cut.
+#![tactic(auto)]
+
 ghost use Rattle.std.specs.Prelude.{◌≡◌, not, cond, eqb, drop};
 ghost use Rattle.text.specs.Text.{has};
 ghost use Rattle.table_words.specs.Words.{clean};

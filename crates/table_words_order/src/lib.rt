@@ -1,9 +1,11 @@
 // The order of texts.
+#![tactic(auto)]
+
 ghost use Rattle.std.specs.Prelude.{◌≡◌, true, ◌+◌, ◌≤◌, length};
 ghost use Rattle.table_words_order.specs.Read.{order_of, Level};
 
 // How one text stands to another, byte by byte.
-#[derive(Drop)]
+#[derive(Clone, Copy)]
 pub enum Order {
     Less,
     Same,

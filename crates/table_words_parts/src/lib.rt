@@ -1,4 +1,6 @@
 // The parts of a key or a value: whether there are few, none of them the wildcard.
+#![tactic(auto)]
+
 ghost use Rattle.std.specs.Prelude.{◌≡◌, true, false, cond, ◌+◌, ◌*◌, ◌≤◌, ◌<◌, ltb, eqb, length, drop};
 ghost use Rattle.text.specs.Text.{split, underscore};
 ghost use Rattle.table_words_parts.specs.Read.{fit, is_pair, paired, occurrences, Counted};

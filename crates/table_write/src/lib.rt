@@ -1,6 +1,8 @@
 // Writes a compiled table: the header, the rows, the texts, and zeros after.
 //
 // A function that puts something writes it to dst from `at` on, and answers the place behind it.
+#![tactic(auto)]
+
 ghost use Rattle.std.specs.Prelude.{◌≡◌, ◌++◌, ◌+◌, ◌-◌, ◌*◌, ◌≤◌, length, get_or};
 ghost use Rattle.std.proofs.Math.Seq.{slice};
 ghost use Rattle.le.specs.Le.{part};

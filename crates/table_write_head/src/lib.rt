@@ -1,6 +1,8 @@
 // Writes the header of a compiled table: the layout number, the settings, the counts and the places.
 //
 // A function that puts something writes it to dst from `at` on, and answers the place behind it.
+#![tactic(auto)]
+
 ghost use Rattle.std.specs.Prelude.{◌≡◌, ◌++◌, ◌+◌, ◌<◌, ◌≤◌, length};
 ghost use Rattle.le.specs.Field.{put32};
 ghost use Rattle.table.specs.Layout.{table_length, head_length, layout_number};

@@ -1,6 +1,8 @@
 // Writes the rows of a compiled table: of the events, of the clauses, of the words.
 //
 // A function that puts something writes it to dst from `at` on, and answers the place behind it.
+#![tactic(auto)]
+
 ghost use Rattle.std.specs.Prelude.{◌≡◌, ◌+◌, ◌*◌, ◌<◌, ◌≤◌, length};
 ghost use Rattle.le.specs.Field.{put16};
 ghost use Rattle.sheet.specs.Places.{event_numbers, clause_numbers};

@@ -17,6 +17,8 @@
 //   #              a comment
 //
 // A call's answer begins with its number and ends with a fingerprint of the bytes that it may change. `C`, `B` and `X` empty the text.
+#![tactic(auto)]
+
 use libc::STDIN_FILENO;
 use test_books_line::{Lent, line};
 use test_console::show;

@@ -1,5 +1,7 @@
 // Code only: what the program `test_books` asks of the calls that change a book: fresh, feed, save, restore. Each shows its number, its values and a
 // fingerprint of the bytes that it may change.
+#![tactic(auto)]
+
 use book_feed::{Feed, feed_bar};
 use book_feed_line::feed_line;
 use book_store::{fresh, restore, save};

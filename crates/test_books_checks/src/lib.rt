@@ -1,4 +1,6 @@
 // Code only: what the program `test_books` asks of the checks of a book: each byte is changed in turn, and what a call then says is asked.
+#![tactic(auto)]
+
 use book_feed::{Feed, feed_bar};
 use book_store::{Stored, save};
 use test_console::ask::field;

@@ -1,4 +1,6 @@
 // Code only: runs one line of the program `test_books`, whose file says what each letter asks, on the bytes that are lent.
+#![tactic(auto)]
+
 use test_books_calls::called;
 use test_books_checks::changed;
 use test_books_rows::asked;

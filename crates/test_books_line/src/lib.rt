@@ -1,11 +1,13 @@
 // Code only: runs one line of the program `test_books` on what is lent of its buffers.
+#![tactic(auto)]
+
 use test_books_letters::{grown, inspect};
 use test_console::ask;
 use test_console::ask::field;
 use test_console_text::build;
 
 // How many bytes of the text are taken, and how many of each buffer are lent.
-#[derive(Drop)]
+#[derive(Clone, Copy)]
 pub struct Lent {
     pub text: usize,
     pub table: usize,

@@ -1,4 +1,6 @@
 // Code only: what the program `test_books` asks of rows, and how it shows them: pairs, holds and events' names.
+#![tactic(auto)]
+
 use bar::LocalTime;
 use double::Side;
 use position::{HoldRow, PairRow};

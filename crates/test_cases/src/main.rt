@@ -1,5 +1,7 @@
 // Code only: runs the stored set. For each case standard input has a line with its length in bytes and then the bytes, an input of the run
 // program; what the run program prints for each is printed, one behind another.
+#![tactic(auto)]
+
 ghost use Rattle.std.specs.Prelude.{◌≡◌, ◌≤◌, length};
 ghost use Rattle.run_feed.specs.Steps.{output_room};
 

@@ -12,6 +12,8 @@
 //   #              a comment
 //
 // `C` and `M` empty the text.
+#![tactic(auto)]
+
 use libc::STDIN_FILENO;
 use test_console::ask::field;
 use test_console::{ask, show};

@@ -1,4 +1,6 @@
 // Code only: what is asked of a table by its meaning: whether its bytes are one, compiling a sheet into it, and which event a bar's signals choose.
+#![tactic(auto)]
+
 ghost use Rattle.std.specs.Prelude.{◌≡◌, true};
 ghost use Rattle.table.specs.Table.{is_table};
 

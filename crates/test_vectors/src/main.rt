@@ -1,5 +1,7 @@
 // Code only: vectors for the leaves. Each line of standard input asks something of one leaf (`test_vectors_numbers`, `test_vectors_texts`), and is written back
 // with the answer behind ` = `. Lines that begin with `#` are written back as they are. docs/MAP.md lists the kinds of question.
+#![tactic(auto)]
+
 use libc::STDIN_FILENO;
 use test_console::show;
 use text::{LF, find};

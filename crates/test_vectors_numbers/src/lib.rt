@@ -1,4 +1,6 @@
 // Code only: questions about numbers: a function for each kind takes the fields behind the letter, asks the leaf, and shows the answer.
+#![tactic(auto)]
+
 ghost use Rattle.std.specs.Prelude.{◌≡◌, length};
 
 use test_console::ask::field;

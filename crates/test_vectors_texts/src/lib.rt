@@ -1,4 +1,6 @@
 // Code only: questions about texts: a function for each kind takes the fields behind the letter, asks the leaf, and shows the answer.
+#![tactic(auto)]
+
 use position_book_answer_alone::{operate_answer, signal_answer};
 use signal::ValueRead;
 use test_console::show::next;

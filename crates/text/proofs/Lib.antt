@@ -6,6 +6,7 @@ pub mod Same
 pub mod Conditions
 pub mod Tested
 pub mod Every
+pub mod Search
 pub mod Parts
 pub mod Cut
 pub mod Joined

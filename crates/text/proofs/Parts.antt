@@ -10,9 +10,8 @@ use borrow.Author.Tests.{eq-eqb, ne_eqb, lt-ltb, le-ltb}
 use lib.Dec.{eqb, ltb}
 use lib.ListN.{length, get_or, take, drop}
 use lib.Seq.{slice, length-slice, drop-drop}
-use Rattle.bytes.specs.Bytes.{index_of, index_after}
 use Rattle.text.specs.Text.{has, onto, split}
-use Rattle.text.specs.Read.{Part, FirstAt}
+use Rattle.text.specs.Read.{Part, index_of, index_after, FirstAt}
 use Rattle.text.proofs.Laws.{part_cons, part_nil, part_end, part-take}
 
 -- ---- the first b

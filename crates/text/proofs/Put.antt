@@ -48,12 +48,9 @@ put-put {l} {m} {n} {t} {u} {at} a b = record {
 
 -- ---- `put_part`
 
-whole_copy : (x y : List ℕ) → length y ≡ length x → take (length x) x ++ drop (length x) y ≡ x
-whole_copy x y e = rw (take-length, drop_of_length-le y {i = length x} (omega arith), append-nil)
-
 -- src in from..to is copied to the part of d that starts at `at` and has its length: q stands there then
 pub put_copy : {src : List ℕ} {from to : ℕ} → Part src from to → (d q : List ℕ) (at : ℕ) → at + (to - from) ≤ length d
-    → q ≡ take (length (take (to - from) (drop from src))) (take (to - from) (drop from src)) ++ drop (length (take (to - from) (drop from src))) (take (at + (to - from) - at) (drop at d))
+    → q ≡ take (to - from) (drop from src)
     → Put d (take at d ++ (q ++ drop (at + (to - from) - at) (drop at d))) at (slice from to src) (at + (to - from))
 unfolding patch
 put_copy {src} {from} {to} p d q at h e = rw size at (put-patch {l = d} {t = x} {at = at} written (omega (arith, size)))
@@ -68,9 +65,7 @@ put_copy {src} {from} {to} p d q at h e = rw size at (put-patch {l = d} {t = x} 
     n = omega (arith, size)
 
     copied : q ≡ x
-    copied =
-        e ∙ ap (λ (z : List ℕ). take (length z) z ++ drop (length z) (take (at + (to - from) - at) (drop at d))) (part-size from to src p.order)
-        ∙ whole_copy x (take (at + (to - from) - at) (drop at d)) (rw n (length-take-le (length x) (drop at d) (rw (length-drop at d) (omega (arith, size)))))
+    copied = e ∙ part-size from to src p.order
 
     written : take at d ++ (q ++ drop (at + (to - from) - at) (drop at d)) ≡ patch d at x
     written = rw (copied, n, drop-drop (length x) at d) (sym (append_assoc (take at d) x (drop (at + length x) d)))

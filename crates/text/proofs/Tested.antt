@@ -1,21 +1,21 @@
 -- Conditions as code tests them: one that fails, and the last where the others hold. Assumes nothing.
 use Prim.Native.Nat.{ℕ, zero, suc, ◌≤◌, ◌<◌}
 use native.Mathlib.Omega.{arith}
-use mathlib.Core.Bool.{Bool, true, false, not, false≢true}
+use mathlib.Core.Bool.{Bool, true, false, false≢true}
 use mathlib.Core.List.{List, [], ◌∷◌, ◌++◌}
 use mathlib.Core.Path.{◌≡◌, refl, sym, ◌∙◌}
 use lib.Dec.{leb}
 use lib.ListN.{get_or}
-use borrow.Author.Tests.{not-true, not_false, le-leb, lt-leb}
+use borrow.Author.Tests.{le-leb, lt-leb}
 use Rattle.text.specs.Conditions.{all_of}
 use Rattle.text.proofs.Conditions.{Each, none_left, ◌also◌}
 
--- a call's answer x, which is the condition b: as a test of `!x` found it
-pub no : {x b : Bool} → x ≡ b → not x ≡ true → b ≡ false
-no e h = sym e ∙ not-true _ h
+-- a call's answer x, which is the condition b: as a test found it
+pub no : {x b : Bool} → x ≡ b → x ≡ false → b ≡ false
+no e h = sym e ∙ h
 
-pub yes : {x b : Bool} → x ≡ b → not x ≡ false → b ≡ true
-yes e h = sym e ∙ not_false _ h
+pub yes : {x b : Bool} → x ≡ b → x ≡ true → b ≡ true
+yes e h = sym e ∙ h
 
 -- a number x that was read, which is the field y: against a limit
 pub above : {x y k : ℕ} → x ≡ y → k < x → leb y k ≡ false

@@ -1,6 +1,8 @@
 // Texts: lines, fields and parts found in lent bytes, compared and copied.
 //
 // A place is an index of the lent bytes, and a part is from..to of them.
+#![tactic(auto)]
+
 ghost use Rattle.std.specs.Prelude.{◌≡◌, [], ◌∷◌, ◌+◌, ◌-◌, ◌<◌, ◌≤◌, length, replicate};
 ghost use Rattle.std.proofs.Math.Seq.{slice};
 ghost use Rattle.text.specs.Text.{same, has, split};
@@ -18,7 +20,14 @@ pub fn find(s: &[u8], from: usize, to: usize, b: u8) -> usize
     requires { Part s.now from to }
     ensures { FirstAt s.now from to b result }
 {
-    bytes::scan::find(s, from, to, b)
+    let mut i = from;
+    while i < to {
+        if s[i] == b {
+            return i;
+        }
+        i += 1;
+    }
+    to
 }
 
 // How many parts the separators b make of s in from..to.
@@ -93,6 +102,6 @@ pub fn put_part(dst: &mut [u8], at: usize, src: &[u8], from: usize, to: usize) -
     ensures { Put dst.old dst.new at (slice from to src.now) result }
 {
     let end = at + (to - from);
-    bytes::copy(&src[from..to], &mut dst[at..end]);
+    dst[at..end].copy_from_slice(&src[from..to]);
     end
 }

@@ -1,4 +1,6 @@
 // Numbers read from a part of a text: decimal, an i32, hexadecimal.
+#![tactic(auto)]
+
 ghost use Rattle.std.specs.Prelude.{◌≡◌, ◌-◌, ◌^◌, ◌<◌, ◌≤◌};
 ghost use Rattle.std.proofs.Math.Seq.{slice};
 ghost use Rattle.text.specs.Number.{natural, at_most, plus, negated, digits_to, i32_of, hex_value, bits_of};
@@ -6,14 +8,14 @@ ghost use Rattle.text.specs.Read.{Part};
 ghost use Rattle.text_number.specs.Read.{number_of, int_of};
 
 // A number that was read, or none.
-#[derive(Drop)]
+#[derive(Clone, Copy)]
 pub enum Number {
     Is(u64),
     Bad,
 }
 
 // A number that fits an i32, by its sign and magnitude, or none.
-#[derive(Drop)]
+#[derive(Clone, Copy)]
 pub enum Int {
     Plus(u64),
     Minus(u64),

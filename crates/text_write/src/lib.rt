@@ -1,4 +1,6 @@
 // Code only: numbers written to lent bytes: decimal and hexadecimal.
+#![tactic(auto)]
+
 ghost use Rattle.std.specs.Prelude.{◌≡◌, ◌+◌, ◌<◌, ◌≤◌, length};
 ghost use Rattle.text.specs.Number.{decimal_of, hex_digit, hex_of};
 ghost use Rattle.text.specs.Read.{Put};

@@ -2,7 +2,7 @@
 use mathlib.Core.Path.{◌≡◌, ◌∙◌, refl, sym, ap}
 use mathlib.Core.Logic.{◌≢◌}
 use mathlib.Core.List.{List, [], ◌∷◌}
-use mathlib.Core.Bool.{Bool, true, false, cond, and_false}
+use mathlib.Core.Bool.{Bool, true, false, cond, and-false}
 use mathlib.Core.Option.{Option, none, some}
 use Prim.Native.Nat.{ℕ, suc, ◌+◌, ◌-◌, ◌≤◌, ◌<◌}
 use native.Mathlib.Decide.{dec_le}
@@ -20,7 +20,7 @@ use Rattle.utf8.specs.declared.Char.TheVariants.{Next, Wrong}
 -- ---- a byte and a range
 
 pub above : (lo hi b : ℕ) → hi < b → inside (to lo hi) b ≡ false
-above lo hi b h = rw (lt-leb b hi h) (and_false (leb lo b))
+above lo hi b h = rw (lt-leb b hi h) (and-false (leb lo b))
 
 pub below : (lo hi b : ℕ) → b < lo → inside (to lo hi) b ≡ false
 below lo hi b h = rw (lt-leb lo b h)

@@ -1,11 +1,13 @@
 // UTF-8 (RFC 3629, section 4): one character of several bytes.
+#![tactic(auto)]
+
 ghost use Rattle.std.specs.Prelude.{◌≡◌, ◌+◌, ◌<◌, ◌≤◌, length, get_or, drop, replicate};
 ghost use Rattle.std.proofs.Math.Option.{some};
 ghost use Rattle.utf8.specs.Utf8.{utf8_tail, after, right, utf8};
 ghost use Rattle.utf8.specs.Read.{asks, ranges, CharAt};
 
 // What must follow a first byte: one byte in lo..hi, and `more` tails.
-#[derive(Drop)]
+#[derive(Clone, Copy)]
 pub struct Need {
     pub lo: u8,
     pub hi: u8,
@@ -13,7 +15,7 @@ pub struct Need {
 }
 
 // A character that ends before the place, or none.
-#[derive(Drop)]
+#[derive(Clone, Copy)]
 pub enum Char {
     Next(usize),
     Wrong,

@@ -1,5 +1,7 @@
 // Blocks of ASCII and of common characters, looked at as a whole. Common are the characters of three bytes that start with e1..ec, ee or ef, where the
 // others are any tails: nearly all of Chinese.
+#![tactic(auto)]
+
 ghost use Rattle.std.specs.Prelude.{◌≡◌, true, ◌+◌, ◌<◌, ◌≤◌, length, drop};
 ghost use Rattle.utf8.specs.Utf8.{utf8};
 ghost use Rattle.utf8.specs.Read.{Passed};

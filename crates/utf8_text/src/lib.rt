@@ -1,6 +1,8 @@
 // Whether a text is UTF-8, and texts that stand alone.
 //
 // One pass: blocks of ASCII and of common characters are looked at as a whole, all others are taken one by one.
+#![tactic(auto)]
+
 ghost use Rattle.std.specs.Prelude.{◌≡◌, ◌+◌, ◌<◌, ◌≤◌, length, drop};
 ghost use Rattle.utf8.specs.Utf8.{utf8};
 ghost use Rattle.utf8.specs.Alone.{alone};
@@ -15,7 +17,7 @@ use utf8_common::{BLOCK, is_common, skip_common};
 pub const TEXT_LIMIT: usize = 16384;
 
 // What a text that stands alone can be.
-#[derive(Drop)]
+#[derive(Clone, Copy)]
 pub enum Alone {
     Fine,
     TooLong,

@@ -4,13 +4,9 @@ pub mod books;
 mod boundaries;
 mod evenings;
 pub mod lines;
-pub mod lists;
 mod lots;
 mod lots_kept;
 pub mod numbers;
-mod revisions;
-mod revisions_chosen;
-mod revisions_signals;
 pub mod round;
 mod scores;
 mod stops;
@@ -31,8 +27,6 @@ pub struct Arguments {
     pub text: Vec<u8>,
     /// A comma line.
     pub line: Vec<u8>,
-    /// A list of bars with revisions.
-    pub list: Vec<u8>,
     pub table: Vec<u8>,
     pub book: Vec<u8>,
     pub image: Vec<u8>,
@@ -60,7 +54,6 @@ impl Arguments {
         let bytes = [
             ("text", &self.text),
             ("line", &self.line),
-            ("list", &self.list),
             ("table", &self.table),
             ("book", &self.book),
             ("image", &self.image),
@@ -162,14 +155,6 @@ pub const FEED_LINE: Call = call!(
 );
 pub const SAVE: Call = call!(save, [0, 8, 9, 10], a, &a.table, &a.book, &mut a.image);
 pub const RESTORE: Call = call!(restore, [0, 8, 9, 10], a, &a.table, &mut a.book, &a.image);
-pub const REVISE: Call = call!(
-    revise,
-    [0, 1, 2, 3, 7, 8, 9, 11, 12, 14, 19],
-    a,
-    &a.table,
-    &mut a.book,
-    &a.list
-);
 pub const PAIR_ROW: Call = call!(
     pair_row,
     [0, 8, 9, 10, 15],
@@ -211,14 +196,13 @@ pub const SIGNAL: Call = call!(signal, [0, 1, 2, 5, 6, 7, 8], a, &a.text, &mut a
 pub const OPERATE: Call = call!(operate, [0, 1, 2, 4, 7], a, &a.text);
 pub const OPERATE_NAME: Call = call!(operate_name, [0, 4, 8], a, a.code, &mut a.buffer);
 
-pub const CALLS: [&Call; 16] = [
+pub const CALLS: [&Call; 15] = [
     &COMPILE,
     &FRESH,
     &FEED,
     &FEED_LINE,
     &SAVE,
     &RESTORE,
-    &REVISE,
     &PAIR_ROW,
     &HOLD_ROW,
     &PAIR_ROWS,
@@ -233,7 +217,7 @@ pub const CALLS: [&Call; 16] = [
 /// Those that take a table.
 pub fn table_calls() -> &'static [&'static Call] {
     let calls: &[&Call] = &CALLS;
-    &calls[2..13]
+    &calls[2..12]
 }
 
 /// Runs each field cut off at every place and begun there, and with every byte put in and put for another there.
@@ -303,7 +287,6 @@ impl Comparison {
         }
         arguments.instant += 1;
         arguments.line = b"3,1970-02-01 00:00:00+00:00,1".to_vec();
-        arguments.list = b"B|1|5|0|3ff0000000000000|0\nB|1|5|0|0000000000000000|1\n".to_vec();
         self.run(&SAVE, &arguments).1
     }
 

@@ -37,13 +37,11 @@ pub fn round(comparison: &mut Comparison, seed: u64) {
     round.sheets(&text);
     round.tables();
     round.play(&season.steps);
-    let bars: Vec<&Bar> = season.bars().collect();
-    round.revise(&bars);
     round.lengths();
     round.rows(&PAIR_ROW);
     round.rows(&HOLD_ROW);
     round.blocks();
-    round.made_books(&bars);
+    round.made_books(&season.bars().collect::<Vec<_>>());
 }
 
 impl Round<'_> {
@@ -254,29 +252,6 @@ impl Round<'_> {
         ];
         let call = *self.rng.pick(&calls);
         self.run(call, &arguments);
-    }
-
-    /// Lists of the season's bars with revisions, right ones and wrong ones, into a book of any bytes, and bars behind it.
-    fn revise(&mut self, bars: &[&Bar]) {
-        for faults in [0, 0, 1, 1, 2] {
-            let mut arguments = self.arguments.clone();
-            let (few, all) = (1 + self.rng.below(6), bars.len().max(1));
-            let room = if self.rng.once_in(4) { few } else { all };
-            arguments.book = buffer(&mut self.rng, book_length(room));
-            arguments.list = lists::of_bars(&mut self.rng, bars);
-            self.arguments.list = arguments.list.clone();
-            for _ in 0..faults {
-                match self.rng.below(12) {
-                    0 => arguments.table = self.faulty_table(&arguments.table),
-                    1 => arguments.book = resized(&mut self.rng, &arguments.book),
-                    _ => arguments.list = lists::fault(&mut self.rng, &arguments.list),
-                }
-            }
-            let (number, after) = self.run(&REVISE, &arguments);
-            if number == 0 {
-                self.feed_made(bars, after);
-            }
-        }
     }
 
     /// Each call with one buffer of a wrong length.

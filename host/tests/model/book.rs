@@ -26,7 +26,7 @@ fn capacity(book: &[u8]) -> Answer<usize> {
 }
 
 /// The book's room, where table and book have their lengths (8).
-pub fn sized(table: &[u8], book: &[u8]) -> Answer<usize> {
+fn sized(table: &[u8], book: &[u8]) -> Answer<usize> {
     require(table.len() == table::LENGTH, 8)?;
     capacity(book)
 }

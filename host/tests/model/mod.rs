@@ -1,6 +1,6 @@
 //! A model of document 01 in plain Rust, written from its text: a file or two for each of its headings, one for what goes
-//! beyond it, and of document 02 one for the comma lines and one for bars with revisions, every call with the arguments,
-//! the answer and the lent bytes of the exported one. It knows nothing of the library but the shapes of the answers.
+//! beyond it and one for the comma lines of document 02, every call with the arguments, the answer and the lent bytes
+//! of the exported one. It knows nothing of the library but the shapes of the answers.
 
 pub mod blocks;
 pub mod book;
@@ -8,7 +8,6 @@ pub mod entries;
 pub mod line;
 pub mod machine;
 pub mod matching;
-pub mod revised;
 pub mod rows;
 pub mod table;
 pub mod texts;
@@ -16,7 +15,6 @@ pub mod texts;
 pub use blocks::{counts, hold_rows, pair_rows};
 pub use book::{feed, fresh, restore, save};
 pub use line::feed_line;
-pub use revised::revise;
 pub use rows::{event_name, hold_row, pair_row};
 pub use table::compile;
 pub use texts::{operate, operate_name, signal};

@@ -1,7 +1,7 @@
 -- `book_check::check_book` meets its contract. Assumes nothing.
 use Rattle.book_check.proofs.Full.{not_table, head_in, not-book, passed}
 use Rattle.table.specs.Table.{is_table}
-use borrow.Author.Tests.{not-true, not_false}
+use borrow.Author.Tests.{not-true, not-false}
 use borrow.Author.Rules.{rules}
 use mathlib.Core.Bool.{true}
 use mathlib.Core.Path.{◌≡◌, sym, ◌∙◌}
@@ -10,7 +10,7 @@ use Rattle.book_check.proofs.check_book.Tie as tie
 
 -- the bytes are a table
 right : (c : tie.Else1) → is_table c.before.before.before.before.args.table.now ≡ true
-right c = sym c.before.is_table_lem.ensures ∙ not_false _ c.if1.false
+right c = sym c.before.is_table_lem.ensures ∙ not-false _ c.if1.false
 
 returns : tie.Need-returns
 returns c = not_table _ _ _ (sym c.before.is_table_lem.ensures ∙ not-true _ c.if1.true)
@@ -26,7 +26,7 @@ returns-2 c =
 returns-3 : tie.Need-returns-3
 returns-3 c =
     let d = c.before.before in
-    passed _ (right d.before) _ _ d.read-counts.ensures c.before.full-ok.ensures (not_false _ c.if2.false)
+    passed _ (right d.before) _ _ d.read-counts.ensures c.before.full-ok.ensures (not-false _ c.if2.false)
 
 pub check-book-spec : {M : Type 1} → statement M
 check-book-spec =

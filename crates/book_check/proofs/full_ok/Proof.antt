@@ -1,7 +1,7 @@
 -- `book_check::full_ok` meets its contract. Assumes nothing.
 use Rattle.book_check.proofs.Full.{holds-room, records-room, full_off, full-last}
 use Rattle.book.specs.Check.{header_ok}
-use borrow.Author.Tests.{not-true, not_false}
+use borrow.Author.Tests.{not-true, not-false}
 use borrow.Author.Rules.{rules}
 use mathlib.Core.Bool.{true}
 use mathlib.Core.Path.{◌≡◌, refl, sym, ◌∙◌}
@@ -10,7 +10,7 @@ use Rattle.book_check.proofs.full_ok.Tie as tie
 
 -- the header passes
 passes : (c : tie.Else1) → header_ok c.before.before.before.args.c c.before.before.before.args.b.now ≡ true
-passes c = sym c.before.header_ok.ensures ∙ not_false _ c.if1.false
+passes c = sym c.before.header_ok.ensures ∙ not-false _ c.if1.false
 
 returns : tie.Need-returns
 returns c = full_off _ _ _ refl refl 0 (sym c.before.header_ok.ensures ∙ not-true _ c.if1.true)
@@ -36,8 +36,8 @@ returns-4 c =
     let s = c.before.before in
     let e = s.before.before.before in
     full-last _ _ _ s.before.before.get-u32.ensures c.before.get-u322.ensures (passes e.before.before)
-    (sym e.before.event_ok_lem.ensures ∙ not_false _ e.if2.false)
-    (sym s.before.holds-ok.ensures ∙ not_false _ s.if3.false)
+    (sym e.before.event_ok_lem.ensures ∙ not-false _ e.if2.false)
+    (sym s.before.holds-ok.ensures ∙ not-false _ s.if3.false)
     c.records-ok.ensures
 
 pub full-ok-spec : {M : Type 1} → statement M

@@ -1,7 +1,7 @@
 -- `book_check::records_ok` meets its contract. Assumes nothing.
 use Rattle.book_check.proofs.Walk.{Walking, walking_first, walking_off, walking_down, walking_more, walking_last}
 use Rattle.book.specs.Check.{record_ok}
-use borrow.Author.Tests.{not-true, not_false}
+use borrow.Author.Tests.{not-true, not-false}
 use borrow.Author.Rules.{rules}
 use mathlib.Core.Path.{sym, ◌∙◌}
 use Prim.Native.Nat.{◌-◌}
@@ -26,15 +26,15 @@ returns-2 : tie.Need-returns-2 invariant-loop decreases-loop
 returns-2 c =
     let s = c.before.before in
     let d = s.before.before.before in
-    walking_down d.before.loop.invariant d.loop-test.true s.before.record-ok.ensures (not_false _ s.if1.false)
+    walking_down d.before.loop.invariant d.loop-test.true s.before.record-ok.ensures (not-false _ s.if1.false)
     (sym c.before.rises.ensures ∙ not-true _ c.if2.true)
 
 loop-again : tie.Need-loop-preserved invariant-loop decreases-loop
 loop-again c =
     let s = c.before.before in
     let d = s.before.before.before in
-    walking_more d.before.loop.invariant d.loop-test.true s.before.record-ok.ensures (not_false _ s.if1.false)
-    (sym c.before.rises.ensures ∙ not_false _ c.if2.false)
+    walking_more d.before.loop.invariant d.loop-test.true s.before.record-ok.ensures (not-false _ s.if1.false)
+    (sym c.before.rises.ensures ∙ not-false _ c.if2.false)
 
 returns-3 : tie.Need-returns-3 invariant-loop decreases-loop
 returns-3 c = walking_last c.before.loop.invariant c.loop-test.false

@@ -4,7 +4,7 @@ use native.Mathlib.Omega.{arith}
 use mathlib.Core.Path.{◌≡◌, sym, ◌∙◌}
 use mathlib.Core.Bool.{true}
 use borrow.Author.Rules.{rules}
-use borrow.Author.Tests.{not-true, not_false}
+use borrow.Author.Tests.{not-true, not-false}
 use Rattle.le.specs.Field.{u32}
 use Rattle.book_write.proofs.Written.{counts}
 use Rattle.book_feed_step.specs.Steps.{in_time}
@@ -14,7 +14,7 @@ use Rattle.book_feed.proofs.accept_bar.Tie as tie
 
 -- the bar is in time, and there is room
 in_time_lem : (c : tie.Else1) → true ≡ in_time c.before.before.before.before.before.before.before.before.before.args.bar c.before.before.before.before.before.before.before.before.before.args.b.now
-in_time_lem c = sym (not_false _ c.if1.false) ∙ c.before.is-in-time.ensures
+in_time_lem c = sym (not-false _ c.if1.false) ∙ c.before.is-in-time.ensures
 
 room : (c : tie.Else2) → u32 c.before.before.before.before.before.before.before.before.before.before.before.before.args.b.now 0 < c.before.before.before.before.before.before.before.before.before.before.before.before.args.c
 room c = omega (arith, c.if2.false, c.before.get-u32.ensures)

@@ -1,7 +1,7 @@
 -- 8, 9, 10. Assumes nothing.
 use mathlib.Core.Path.{refl, sym, ◌∙◌, subst}
 use borrow.Author.Rules.{rules}
-use borrow.Author.Tests.{not-true, not_false}
+use borrow.Author.Tests.{not-true, not-false}
 use Rattle.book_feed.specs.Steps.{TableOpenedAs}
 use Rattle.book_feed.specs.declared.Opened.TheVariants.{Bars}
 use Rattle.book_feed.proofs.Refusals.{book-refused, book-not, book-is}
@@ -19,7 +19,7 @@ returns : tie.Need-returns
 returns c = book-not (table c.before.before) (sym c.before.header_ok.ensures ∙ not-true _ c.if1.true)
 
 returns-2 : tie.Need-returns-2
-returns-2 c = book-is (table c.before.before) (sym c.before.header_ok.ensures ∙ not_false _ c.if1.false)
+returns-2 c = book-is (table c.before.before) (sym c.before.header_ok.ensures ∙ not-false _ c.if1.false)
 
 returns-3 : tie.Need-returns-3
 returns-3 c = book-refused refl tt (subst (TableOpenedAs _ _) c.enum_told.given.1 c.before.before.open-table.ensures)

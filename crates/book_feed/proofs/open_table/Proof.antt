@@ -1,7 +1,7 @@
 -- 8, 9. Assumes nothing.
 use mathlib.Core.Path.{sym, ◌∙◌, subst}
 use borrow.Author.Rules.{rules}
-use borrow.Author.Tests.{not-true, not_false}
+use borrow.Author.Tests.{not-true, not-false}
 use Rattle.book_header.specs.Size.{SizedAs}
 use Rattle.book_header.specs.declared.Sized.TheVariants.{Bars}
 use Rattle.book_feed.proofs.Refusals.{table_length_lem, table_not, table_is}
@@ -21,7 +21,7 @@ returns-2 c = table_not (size c.before.before).is (sym c.before.is_table_lem.ens
 returns-3 : tie.Need-returns-3
 returns-3 c =
     let k = size c.before.before in
-    table_is k.is (sym c.before.is_table_lem.ensures ∙ not_false _ c.if1.false) k.ok.1
+    table_is k.is (sym c.before.is_table_lem.ensures ∙ not-false _ c.if1.false) k.ok.1
 
 pub open-table-spec : {M : Type 1} → statement M
 open-table-spec =

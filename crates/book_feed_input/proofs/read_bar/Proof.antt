@@ -1,6 +1,6 @@
 -- The bar, or the first field outside its range. Assumes nothing.
 use borrow.Author.Rules.{rules}
-use borrow.Author.Tests.{not-true, not_false}
+use borrow.Author.Tests.{not-true, not-false}
 use mathlib.Core.Path.{◌≡◌, refl, sym, ap, ◌∙◌}
 use mathlib.Core.Bool.{true}
 use lib.IntN.{nat_abs}
@@ -22,13 +22,13 @@ offset-test c = c.within3.ensures ∙ ap offset_ok (to_z-of_z c.before.before.be
 
 -- what those that passed say
 id-ok : (c : tie.Else1) → true ≡ id_ok c.before.before.args.id
-id-ok c = sym (not_false _ c.if1.false) ∙ id-test c.before
+id-ok c = sym (not-false _ c.if1.false) ∙ id-test c.before
 
 instant-ok : (c : tie.Else2) → true ≡ instant_ok c.before.before.before.before.args.instant
-instant-ok c = sym (not_false _ c.if2.false) ∙ instant-test c.before
+instant-ok c = sym (not-false _ c.if2.false) ∙ instant-test c.before
 
 offset-ok : (c : tie.Else3) → true ≡ offset_ok c.before.before.before.before.before.before.args.offset
-offset-ok c = sym (not_false _ c.if3.false) ∙ offset-test c.before
+offset-ok c = sym (not-false _ c.if3.false) ∙ offset-test c.before
 
 returns : tie.Need-returns
 returns c = outside (sym (not-true _ c.if1.true) ∙ id-test c.before) refl refl refl refl
@@ -56,7 +56,7 @@ returns-5 c =
     let o = offset-ok c.before.before in
     inside (ap nat_abs (to_z-of_z f.id)) (to_z-of_z f.instant) (offset_back f.offset o)
     (id-ok c.before.before.before.before.before.before) (instant-ok c.before.before.before.before) o
-    (sym (not_false _ c.if4.false) ∙ c.before.is_finite.ensures)
+    (sym (not-false _ c.if4.false) ∙ c.before.is_finite.ensures)
 
 pub read-bar-spec : {M : Type 1} → statement M
 read-bar-spec =

@@ -1,7 +1,7 @@
 -- The text's own refusals first, then its lines. Assumes nothing.
 use mathlib.Core.Path.{◌∙◌, sym}
 use borrow.Author.Rules.{rules}
-use borrow.Author.Tests.{not-true, not_false}
+use borrow.Author.Tests.{not-true, not-false}
 use lib.ListN.{length-set}
 use Rattle.event_signals.proofs.Adding.{reading-first, signals-long, signals-bytes, signals-fine}
 use Rattle.event_signals.proofs.read_signals.Statement.{statement}
@@ -16,7 +16,7 @@ returns-2 c = signals-bytes c.before.before.if1.false (sym c.before.valid.ensure
 read-lines-requires : tie.Need-read-lines-requires
 read-lines-requires c κs =
     let w = c.before.before.before in
-    reading-first _ _ _ _ (signals-fine _ w.before.before.if1.false (sym w.before.valid.ensures ∙ not_false w.before.valid.result w.if2.false)) w.before.before.before.before.before.before.before.requires
+    reading-first _ _ _ _ (signals-fine _ w.before.before.if1.false (sym w.before.valid.ensures ∙ not-false w.before.valid.result w.if2.false)) w.before.before.before.before.before.before.before.requires
 
 same_length : tie.Need-same-length
 same_length c = c.before.before.before.before.before.starts.given ∙ length-set c.before.before.before.before.before.before.before.before.before.before.before.before.before.before.before.before.before.args.starts.now 0 0

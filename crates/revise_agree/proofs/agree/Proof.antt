@@ -1,7 +1,7 @@
 -- `Comparing` is the invariant: each entry so far is alike the first of its instant and revision. Assumes nothing.
 use Prim.Native.Nat.{◌-◌}
 use borrow.Author.Rules.{rules}
-use borrow.Author.Tests.{not-true, not_false}
+use borrow.Author.Tests.{not-true, not-false}
 use Rattle.revise_agree.proofs.Comparing.{Comparing, comparing_none, comparing_pair, comparing_differ, comparing_more, comparing_all}
 use Rattle.revise_agree.proofs.agree.Statement.{statement}
 use Rattle.revise_agree.proofs.agree.Tie as tie
@@ -32,7 +32,7 @@ loop-again c =
     let w = c.before.before.before in
     let v = w.before in
     comparing_more v.before.before.loop.invariant v.before.loop-test.true v.first_above.ensures w.agrees.ensures
-    (not_false _ c.before.before.if1.false) c.greater.ensures
+    (not-false _ c.before.before.if1.false) c.greater.ensures
 
 returns-2 : tie.Need-returns-2 invariant-loop decreases-loop
 returns-2 c = comparing_all c.before.before.before.before.before.before.requires c.before.loop.invariant c.loop-test.false

@@ -1,6 +1,6 @@
 use Rattle.revise_book.proofs.Steps.{differs, full, ready, done}
 use Rattle.revise_agree.specs.Agree.{AgreeAs}
-use borrow.Author.Tests.{not-true, not_false}
+use borrow.Author.Tests.{not-true, not-false}
 use mathlib.Core.Path.{subst}
 use mathlib.Core.Bool.{true}
 use native.Mathlib.Omega.{arith}
@@ -17,7 +17,7 @@ use Rattle.revise_feed.proofs.feed_chosen.Reads as feed-chosen-reads
 
 -- the entries agree
 agreed : (c : tie.Else1) → AgreeAs c.before.before.before.before.before.before.before.before.before.args.s.now true
-agreed c = subst (AgreeAs _) (not_false _ c.if1.false) c.before.agree.ensures
+agreed c = subst (AgreeAs _) (not-false _ c.if1.false) c.before.agree.ensures
 
 -- src/lib.rt:82:9
 agree-requires : tie.Need-agree-requires

@@ -4,7 +4,7 @@ use native.Mathlib.Omega.{arith}
 use mathlib.Core.Path.{◌≡◌, ◌∙◌, sym, ap}
 use mathlib.Core.Bool.{true}
 use borrow.Author.Rules.{rules}
-use borrow.Author.Tests.{not-true, not_false}
+use borrow.Author.Tests.{not-true, not-false}
 use lib.ListN.{length}
 use lib.IntN.{nat_abs}
 use mir.Syntax.{w64}
@@ -25,7 +25,7 @@ roomy : (c : tie.Else3) → name_limit ≤ length c.before.before.before.before.
 roomy c = c.before.before.if2.false
 
 accepted : (c : tie.Else3) → is_table c.before.before.before.before.before.before.args.table.now ≡ true
-accepted c = sym c.before.is_table_lem.ensures ∙ not_false c.before.is_table_lem.result c.if3.false
+accepted c = sym c.before.is_table_lem.ensures ∙ not-false c.before.is_table_lem.result c.if3.false
 
 fits : (c : tie.Else3) → SFits w64 c.before.before.before.before.before.before.args.i
 fits c = c.before.before.before.before.before.before.ranges.i

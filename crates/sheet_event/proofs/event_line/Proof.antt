@@ -2,7 +2,7 @@
 use Prim.Native.Nat.{suc}
 use mathlib.Core.Path.{◌≡◌, ◌∙◌, sym, ap}
 use mathlib.Core.Bool.{true}
-use borrow.Author.Tests.{not-true, not_false}
+use borrow.Author.Tests.{not-true, not-false}
 use lib.ListN.{length}
 use borrow.Author.Rules.{rules}
 use Rattle.sheet.specs.Sheet.{exit_in}
@@ -17,7 +17,7 @@ tested : (w : tie.After-fields-fit) → let a = w.before.before.before.before.ar
 tested w = w.fields_fit.ensures ∙ ap (λ n. event_fields (exit_in w.before.before.before.before.args.kind) (suc n)) w.before.count-parts.ensures
 
 count : (w : tie.Else1) → let a = w.before.before.before.before.before.args in event_fields (exit_in a.kind) (suc (length (fields_of a.s.now a.from a.to))) ≡ true
-count w = sym (tested w.before) ∙ not_false w.before.fields_fit.result w.if1.false
+count w = sym (tested w.before) ∙ not-false w.before.fields_fit.result w.if1.false
 
 returns : tie.Need-returns
 returns c =
@@ -41,7 +41,7 @@ told-line-requires c κs =
     let v = c.before.before.before.before in
     let w = v.before.before in
     let t = w.before.before.before.before.before in
-    (told t.requires.0 t.args.kind t.args.a t.args.events.now (count w) c.before.before.find.ensures c.before.find2.ensures (sym v.in_place.ensures ∙ not_false v.in_place.result c.before.before.before.if2.false), t.requires.1)
+    (told t.requires.0 t.args.kind t.args.a t.args.events.now (count w) c.before.before.find.ensures c.before.find2.ensures (sym v.in_place.ensures ∙ not-false v.in_place.result c.before.before.before.if2.false), t.requires.1)
 
 pub event-line-spec : {M : Type 1} → statement M
 event-line-spec =

@@ -2,7 +2,7 @@
 use mathlib.Core.Path.{◌≡◌, ◌∙◌, sym}
 use mathlib.Core.Bool.{true}
 use native.Mathlib.Omega.{arith}
-use borrow.Author.Tests.{not-true, not_false}
+use borrow.Author.Tests.{not-true, not-false}
 use borrow.Author.Rules.{rules}
 use Rattle.utf8.specs.Utf8.{utf8}
 use Rattle.sheet_read.proofs.AllLines.{too_long, not-utf8, no_line, first-refused, first-ok, sheet-is, tag_refuses}
@@ -11,7 +11,7 @@ use Rattle.sheet_read.proofs.read_sheet.Tie as tie
 
 -- a text of UTF-8
 right : (w : tie.Else2) → utf8 w.before.before.before.before.before.before.args.s.now ≡ true
-right w = sym w.before.valid.ensures ∙ not_false w.before.valid.result w.if2.false
+right w = sym w.before.valid.ensures ∙ not-false w.before.valid.result w.if2.false
 
 returns : tie.Need-returns
 returns c =

@@ -4,7 +4,7 @@ use Rattle.table.specs.Read.{Headed}
 use Rattle.table.specs.Table.{head_ok}
 use Rattle.table.specs.Layout.{parts_in}
 use Rattle.table_check_texts.specs.Check.{texts_ok}
-use borrow.Author.Tests.{not-true, not_false}
+use borrow.Author.Tests.{not-true, not-false}
 use mathlib.Core.Bool.{true}
 use mathlib.Core.Path.{◌≡◌, sym, ◌∙◌}
 use borrow.Author.Rules.{rules}
@@ -13,14 +13,14 @@ use Rattle.table_check.proofs.is_table.Tie as tie
 
 -- the header is right
 right : (c : tie.Else1) → head_ok c.before.before.before.args.t.now ≡ true
-right c = sym c.before.head_ok.ensures ∙ not_false _ c.if1.false
+right c = sym c.before.head_ok.ensures ∙ not-false _ c.if1.false
 
 known : (c : tie.After-read-places) → Headed c.before.before.before.before.before.args.t.now c.before.read-counts.result c.read-places.result
 known c = headed_as _ (right c.before.before) c.before.read-counts.ensures c.read-places.ensures
 
 -- the texts are clean
 clear : (c : tie.Else2) → texts_ok (parts_in c.before.before.before.before.before.before.before.args.t.now) ≡ true
-clear c = sym c.before.texts-ok.ensures ∙ not_false _ c.if2.false
+clear c = sym c.before.texts-ok.ensures ∙ not-false _ c.if2.false
 
 returns : tie.Need-returns
 returns c = table_head _ (sym c.before.head_ok.ensures ∙ not-true _ c.if1.true)
@@ -50,7 +50,7 @@ returns-4 : tie.Need-returns-4
 returns-4 c =
     let r = c.before in
     let n = r.before.before in
-    table_last _ (right n.before.before.before.before) (clear n) (sym r.before.rows_ok.ensures ∙ not_false _ r.if3.false)
+    table_last _ (right n.before.before.before.before) (clear n) (sym r.before.rows_ok.ensures ∙ not-false _ r.if3.false)
     c.vocabulary-ok.ensures
 
 pub is-table-spec : {M : Type 1} → statement M

@@ -1,6 +1,6 @@
 -- `table_check::rows_ok` meets its contract. Assumes nothing.
 use Rattle.table_check.proofs.Parts.{names_lent, rows-events, rows-clauses}
-use borrow.Author.Tests.{not-true, not_false}
+use borrow.Author.Tests.{not-true, not-false}
 use native.Mathlib.Omega.{arith}
 use borrow.Author.Rules.{rules}
 use Rattle.table_check.proofs.rows_ok.Statement.{statement}
@@ -23,7 +23,7 @@ returns c =
 returns-2 : tie.Need-returns-2
 returns-2 c =
     let d = c.before.before.before.before in
-    rows-clauses d.before.before.before.before.before.before.before.before.before.before.before.before.requires.0 d.before.events-ok.ensures (not_false _ d.if1.false)
+    rows-clauses d.before.before.before.before.before.before.before.before.before.before.before.before.requires.0 d.before.events-ok.ensures (not-false _ d.if1.false)
     c.clauses-ok.ensures
 
 pub rows-ok-spec : {M : Type 1} → statement M

@@ -1,6 +1,6 @@
 -- `table_check::vocabulary_ok` meets its contract. Assumes nothing.
 use Rattle.table_check.proofs.Parts.{keytexts_lent, valuetexts_lent, vocabulary_keys, vocabulary_values}
-use borrow.Author.Tests.{not-true, not_false}
+use borrow.Author.Tests.{not-true, not-false}
 use borrow.Author.Rules.{rules}
 use Rattle.table_check.proofs.vocabulary_ok.Statement.{statement}
 use Rattle.table_check.proofs.vocabulary_ok.Tie as tie
@@ -22,7 +22,7 @@ returns c =
 returns-2 : tie.Need-returns-2
 returns-2 c =
     let d = c.before.before.before.before in
-    vocabulary_values d.before.before.before.before.before.before.before.before.before.before.before.before.requires.0 d.before.words-ok.ensures (not_false _ d.if1.false)
+    vocabulary_values d.before.before.before.before.before.before.before.before.before.before.before.before.requires.0 d.before.words-ok.ensures (not-false _ d.if1.false)
     c.words-ok2.ensures
 
 pub vocabulary-ok-spec : {M : Type 1} → statement M

@@ -2,7 +2,7 @@
 use Rattle.text.proofs.Tested.{broken, decided}
 use Rattle.table.specs.Table.{clause_ok}
 use Rattle.text.proofs.Conditions.{◌also◌, none_left}
-use borrow.Author.Tests.{le-leb, lt-leb, lt-ltb, le-ltb, not-true, not_false}
+use borrow.Author.Tests.{le-leb, lt-leb, lt-ltb, le-ltb, not-true, not-false}
 use mathlib.Core.Path.{refl, sym, ◌∙◌}
 use borrow.Author.Rules.{rules}
 use Rattle.table_check_clauses.proofs.clause_ok.Statement.{statement}
@@ -38,9 +38,9 @@ returns-6 c =
     decided
     (le-leb _ _ d2.before.before.if1.false
     also lt-ltb _ _ d2.if2.false
-    also sym d3.before.code_ok.ensures ∙ not_false _ d3.if3.false
-    also sym d4.before.code-ok2.ensures ∙ not_false _ d4.if4.false
-    also sym d5.before.code-ok3.ensures ∙ not_false _ d5.if5.false
+    also sym d3.before.code_ok.ensures ∙ not-false _ d3.if3.false
+    also sym d4.before.code-ok2.ensures ∙ not-false _ d4.if4.false
+    also sym d5.before.code-ok3.ensures ∙ not-false _ d5.if5.false
     also none_left)
     refl
 

@@ -1,7 +1,7 @@
 -- `table_check_events::event_step` meets its contract. Assumes nothing.
 use Rattle.table_check_events.proofs.Events.{event_stops, event_goes}
 use Rattle.text.proofs.Conditions.{◌also◌, none_left}
-use borrow.Author.Tests.{eq-eqb, ne_eqb, le-leb, lt-leb, not-true, not_false}
+use borrow.Author.Tests.{eq-eqb, ne_eqb, le-leb, lt-leb, not-true, not-false}
 use mathlib.Core.Path.{sym, ◌∙◌}
 use borrow.Author.Rules.{rules}
 use Rattle.table_check_events.proofs.event_step.Statement.{statement}
@@ -29,7 +29,7 @@ returns-5 c =
     (eq-eqb _ _ d.before.before.if1.false
     also eq-eqb _ _ d.before.if2.false
     also le-leb _ _ d.if3.false
-    also sym c.before.before.event_ok_lem.ensures ∙ not_false _ c.before.if4.false
+    also sym c.before.before.event_ok_lem.ensures ∙ not-false _ c.before.if4.false
     also none_left)
 
 pub event-step-spec : {M : Type 1} → statement M

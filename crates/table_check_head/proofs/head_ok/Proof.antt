@@ -5,7 +5,7 @@ use lib.Dec.{eqb}
 use Rattle.table.specs.Layout.{layout_number}
 use Rattle.table.specs.Table.{settings_ok, counts_ok, places_ok, head_ok}
 use Rattle.text.proofs.Conditions.{◌also◌, none_left}
-use borrow.Author.Tests.{eq-eqb, ne_eqb, not-true, not_false}
+use borrow.Author.Tests.{eq-eqb, ne_eqb, not-true, not-false}
 use mathlib.Core.Path.{sym, ap, ap₂, ◌∙◌}
 use borrow.Author.Rules.{rules}
 use Rattle.table_check_head.proofs.head_ok.Statement.{statement}
@@ -28,7 +28,7 @@ unfolding head_ok
 returns-4 c = broken _ 3 (ap counts_ok (sym c.before.before.read-counts.ensures) ∙ sym c.before.counts-ok.ensures ∙ not-true _ c.if4.true)
 
 places-ok-requires : tie.Need-places-ok-requires
-places-ok-requires c κs = few _ (sym c.before.before.counts-ok.ensures ∙ not_false _ c.before.if4.false)
+places-ok-requires c κs = few _ (sym c.before.before.counts-ok.ensures ∙ not-false _ c.before.if4.false)
 
 returns-5 : tie.Need-returns-5
 unfolding head_ok
@@ -39,8 +39,8 @@ returns-5 c =
     decided
     (eq-eqb _ _ l.before.before.if1.false
     also ap (λ n. eqb n layout_number) (sym l.before.read-layout.ensures) ∙ eq-eqb _ _ l.if2.false
-    also ap settings_ok (sym s.before.before.read-settings.ensures) ∙ sym s.before.settings-ok.ensures ∙ not_false _ s.if3.false
-    also ap counts_ok (sym d.before.before.read-counts.ensures) ∙ sym d.before.counts-ok.ensures ∙ not_false _ d.if4.false
+    also ap settings_ok (sym s.before.before.read-settings.ensures) ∙ sym s.before.settings-ok.ensures ∙ not-false _ s.if3.false
+    also ap counts_ok (sym d.before.before.read-counts.ensures) ∙ sym d.before.counts-ok.ensures ∙ not-false _ d.if4.false
     also none_left)
     (c.places-ok.ensures ∙ ap₂ places_ok d.before.before.read-counts.ensures c.before.read-places.ensures)
 

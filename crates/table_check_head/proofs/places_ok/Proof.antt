@@ -3,7 +3,7 @@ use Rattle.table_check_head.proofs.Heads.{behind-both}
 use Rattle.text.proofs.Tested.{broken, decided}
 use Rattle.table.specs.Table.{places_ok}
 use Rattle.text.proofs.Conditions.{◌also◌, none_left}
-use borrow.Author.Tests.{eq-eqb, ne_eqb, le-leb, lt-leb, not-true, not_false}
+use borrow.Author.Tests.{eq-eqb, ne_eqb, le-leb, lt-leb, not-true, not-false}
 use mathlib.Core.Path.{refl, sym, ◌∙◌}
 use borrow.Author.Rules.{rules}
 use Rattle.table_check_head.proofs.places_ok.Statement.{statement}
@@ -62,11 +62,11 @@ returns-10 c =
     let a = d1.before.before.args in
     decided
     (eq-eqb _ _ d1.if1.false
-    also sym d2.before.ends_at.ensures ∙ not_false _ d2.if2.false
-    also sym d3.before.ends-at2.ensures ∙ not_false _ d3.if3.false
-    also sym d4.before.ends-at3.ensures ∙ not_false _ d4.if4.false
-    also sym d5.before.ends-at4.ensures ∙ not_false _ d5.if5.false
-    also behind-both a.p.texts a.c.name a.c.symbol a.p.names ∙ sym d6.before.ends-at5.ensures ∙ not_false _ d6.if6.false
+    also sym d2.before.ends_at.ensures ∙ not-false _ d2.if2.false
+    also sym d3.before.ends-at2.ensures ∙ not-false _ d3.if3.false
+    also sym d4.before.ends-at3.ensures ∙ not-false _ d4.if4.false
+    also sym d5.before.ends-at4.ensures ∙ not-false _ d5.if5.false
+    also behind-both a.p.texts a.c.name a.c.symbol a.p.names ∙ sym d6.before.ends-at5.ensures ∙ not-false _ d6.if6.false
     also le-leb _ _ d7.if7.false
     also le-leb _ _ d8.if8.false
     also le-leb _ _ d9.if9.false

@@ -1,6 +1,6 @@
 -- `table_check_words::ranks_ok` meets its contract. Assumes nothing.
 use Rattle.table_check_words.proofs.Ranks.{Ranking, ranking_first, ranking_off, ranking_more, ranking_last}
-use borrow.Author.Tests.{not-true, not_false}
+use borrow.Author.Tests.{not-true, not-false}
 use borrow.Author.Rules.{rules}
 use mathlib.Core.Path.{sym, ◌∙◌}
 use Prim.Native.Nat.{◌-◌}
@@ -24,7 +24,7 @@ returns c =
 loop-again : tie.Need-loop-preserved invariant-loop decreases-loop
 loop-again c =
     let d = c.before.before in
-    ranking_more d.before.loop.invariant d.loop-test.true (sym c.before.rank-ok.ensures ∙ not_false _ c.if1.false)
+    ranking_more d.before.loop.invariant d.loop-test.true (sym c.before.rank-ok.ensures ∙ not-false _ c.if1.false)
 
 returns-2 : tie.Need-returns-2 invariant-loop decreases-loop
 returns-2 c = ranking_last c.before.loop.invariant c.loop-test.false

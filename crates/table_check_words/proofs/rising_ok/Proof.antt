@@ -1,6 +1,6 @@
 -- `table_check_words::rising_ok` meets its contract. Assumes nothing.
 use Rattle.table_check_words.proofs.Rising.{inside-order, Rising, rising-first, rising_off, rising-more, rising-last}
-use borrow.Author.Tests.{not-true, not_false}
+use borrow.Author.Tests.{not-true, not-false}
 use borrow.Author.Rules.{rules}
 use mathlib.Core.Path.{sym, ◌∙◌}
 use native.Mathlib.Omega.{arith}
@@ -34,7 +34,7 @@ loop-again : tie.Need-loop-preserved invariant-loop decreases-loop
 loop-again c =
     let d = c.before.before.before.before.before in
     rising-more d.before.before.loop.invariant d.before.before.before.before.before.requires d.before.loop-test.true d.word_at.ensures c.before.before.before.before.word-at2.ensures
-    (sym (not_false _ c.if1.false) ∙ c.before.precedes.ensures)
+    (sym (not-false _ c.if1.false) ∙ c.before.precedes.ensures)
 
 returns-2 : tie.Need-returns-2 invariant-loop decreases-loop
 returns-2 c = rising-last c.before.loop.invariant c.loop-test.false

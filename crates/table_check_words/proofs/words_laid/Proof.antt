@@ -1,6 +1,6 @@
 -- `table_check_words::words_laid` meets its contract. Assumes nothing.
 use Rattle.table_check_words.proofs.Words.{Laying, laying_first, laying_off, laying_more, laying_last}
-use borrow.Author.Tests.{not-true, not_false}
+use borrow.Author.Tests.{not-true, not-false}
 use borrow.Author.Rules.{rules}
 use mathlib.Core.Path.{sym, ◌∙◌}
 use Prim.Native.Nat.{◌-◌}
@@ -28,7 +28,7 @@ loop-again : tie.Need-loop-preserved invariant-loop decreases-loop
 loop-again c =
     let o = c.before.before in
     let d = o.before.before in
-    laying_more d.before.before.loop.invariant d.before.loop-test.true d.word_at.ensures (sym o.before.word_fits.ensures ∙ not_false _ o.if1.false)
+    laying_more d.before.before.loop.invariant d.before.loop-test.true d.word_at.ensures (sym o.before.word_fits.ensures ∙ not-false _ o.if1.false)
 
 returns-2 : tie.Need-returns-2 invariant-loop decreases-loop
 returns-2 c = laying_last c.before.loop.invariant c.loop-test.false

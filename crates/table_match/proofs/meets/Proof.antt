@@ -2,7 +2,7 @@
 use mathlib.Core.Path.{◌∙◌, sym, subst}
 use native.Mathlib.Omega.{arith}
 use borrow.Author.Rules.{rules}
-use borrow.Author.Tests.{not-true, not_false}
+use borrow.Author.Tests.{not-true, not-false}
 use Rattle.signal.specs.Read.{ValueAs}
 use Rattle.signal.specs.declared.ValueAt.{ValueAt}
 use Rattle.signal.specs.declared.ValueRead.TheVariants.{Counts}
@@ -41,7 +41,7 @@ returns-3 c =
     let u = c.before.before in
     let w = u.before.before in
     met_first _ _ _ (value w) (counts w).is
-    (sym (not_false u.before.reaches.result u.if1.false) ∙ u.before.reaches.ensures)
+    (sym (not-false u.before.reaches.result u.if1.false) ∙ u.before.reaches.ensures)
     (sym (not-true c.before.agrees.result c.if2.true) ∙ c.before.agrees.ensures)
 
 add-agrees : tie.Need-overflow-add-agrees
@@ -62,8 +62,8 @@ returns-4 c =
     let u = v.before.before in
     let w = u.before.before in
     met_second _ _ _ (value w) (counts w).is
-    (sym (not_false u.before.reaches.result u.if1.false) ∙ u.before.reaches.ensures)
-    (sym (not_false v.before.agrees.result v.if2.false) ∙ v.before.agrees.ensures)
+    (sym (not-false u.before.reaches.result u.if1.false) ∙ u.before.reaches.ensures)
+    (sym (not-false v.before.agrees.result v.if2.false) ∙ v.before.agrees.ensures)
     (sym (not-true c.before.agrees2.result c.if3.true) ∙ c.before.agrees2.ensures)
 
 add-agrees-2 : tie.Need-overflow-add-agrees-2
@@ -85,9 +85,9 @@ returns-5 c =
     let u = v.before.before in
     let w = u.before.before in
     met_third _ _ _ (value w) (counts w).is
-    (sym (not_false u.before.reaches.result u.if1.false) ∙ u.before.reaches.ensures)
-    (sym (not_false v.before.agrees.result v.if2.false) ∙ v.before.agrees.ensures)
-    (sym (not_false x.before.agrees2.result x.if3.false) ∙ x.before.agrees2.ensures)
+    (sym (not-false u.before.reaches.result u.if1.false) ∙ u.before.reaches.ensures)
+    (sym (not-false v.before.agrees.result v.if2.false) ∙ v.before.agrees.ensures)
+    (sym (not-false x.before.agrees2.result x.if3.false) ∙ x.before.agrees2.ensures)
     c.agrees3.ensures
 
 pub meets-spec : {M : Type 1} → statement M

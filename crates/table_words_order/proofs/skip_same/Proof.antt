@@ -1,7 +1,7 @@
 -- `table_words_order::skip_same` meets its contract: `Level`, that the texts are the same up to i, is the invariant. Assumes nothing.
 use Rattle.table_words_order.specs.Read.{Level}
 use Rattle.table_words_order.proofs.Level.{level_none, level_on}
-use borrow.Author.Tests.{not_false}
+use borrow.Author.Tests.{not-false}
 use lib.ListN.{length}
 use Prim.Native.Nat.{◌-◌}
 use native.Mathlib.Omega.{arith}
@@ -25,7 +25,7 @@ returns-2 : tie.Need-returns-2 invariant-loop decreases-loop
 returns-2 c = c.before.before.before.before.loop.invariant
 
 loop-again : tie.Need-loop-preserved invariant-loop decreases-loop
-loop-again c = level_on c.before.before.before.before.loop.invariant (c.before.same_block.ensures (not_false _ c.if2.false))
+loop-again c = level_on c.before.before.before.before.loop.invariant (c.before.same_block.ensures (not-false _ c.if2.false))
 
 returns-3 : tie.Need-returns-3 invariant-loop decreases-loop
 returns-3 c = c.before.loop.invariant

@@ -1,7 +1,7 @@
 -- `position_machine::step::close` meets its contract. Assumes nothing.
 use Prim.Native.Nat.{ℕ}
 use mathlib.Core.Path.{sym, ap, ◌∙◌}
-use borrow.Author.Tests.{not-true, not_false}
+use borrow.Author.Tests.{not-true, not-false}
 use borrow.Author.Rules.{rules}
 use Rattle.position.specs.Step.{write}
 use Rattle.position.specs.declared.Pos.TheVariants.{Flat}
@@ -22,7 +22,7 @@ returns-2 c =
     let e = c.before.before in
     let t = e.before.before in
     let a = t.before.args in
-    leaves (of_settings a.k) a.bar a.c a.side a.lots a.h Nothing (sym t.can-close.ensures ∙ not_false _ e.before.if1.false)
+    leaves (of_settings a.k) a.bar a.c a.side a.lots a.h Nothing (sym t.can-close.ensures ∙ not-false _ e.before.if1.false)
     (sym e.exit-desc.ensures ∙ c.enum_told.given.1)
 
 returns-3 : tie.Need-returns-3
@@ -33,7 +33,7 @@ returns-3 c =
     let a = t.before.args in
     c.create-operate-record.ensures a.lots
     ∙ ap (λ (n : ℕ). write a.bar n Flat d.exit.given.0.0 a.lots (silent a.h a.lots)) c.before.close-operate.ensures
-    ∙ leaves (of_settings a.k) a.bar a.c a.side a.lots a.h (By d.exit.given.0.0) (sym t.can-close.ensures ∙ not_false _ e.before.if1.false)
+    ∙ leaves (of_settings a.k) a.bar a.c a.side a.lots a.h (By d.exit.given.0.0) (sym t.can-close.ensures ∙ not-false _ e.before.if1.false)
     (sym e.exit-desc.ensures ∙ d.exit.given.1)
 
 pub close_spec : {M : Type 1} → statement M
