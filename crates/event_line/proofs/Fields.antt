@@ -8,10 +8,9 @@ use native.Mathlib.Omega.{arith}
 use borrow.Author.Tests.{ne_eqb}
 use lib.ListN.{length, get_or}
 use lib.Seq.{slice}
-use Rattle.bytes.specs.Bytes.{index_of}
 use Rattle.text.specs.Answer.{Refused, ◌>>=◌}
 use Rattle.text.specs.Text.{split, LF, pipe}
-use Rattle.text.specs.Read.{Part, FirstAt}
+use Rattle.text.specs.Read.{Part, index_of, FirstAt}
 use Rattle.text.proofs.Lines.{lines_cut, lines_next}
 use Rattle.text.proofs.Parts.{split-next, split-last, split_some}
 use Rattle.event.specs.Signals.{Line, signal_line}

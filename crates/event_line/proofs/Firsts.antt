@@ -10,7 +10,7 @@ use borrow.Author.Tests.{eq-eqb, ne_eqb}
 use lib.Dec.{eqb}
 use lib.ListN.{length, get_or}
 use lib.Seq.{slice, length-slice}
-use Rattle.text.specs.Read.{FirstAt}
+use Rattle.text.specs.Read.{index_of, index_after, FirstAt}
 use Rattle.text.proofs.Laws.{part_cons, part_nil}
 
 index_most : (b : ℕ) (l : List ℕ) → index_of b l ≤ length l

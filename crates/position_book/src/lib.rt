@@ -1,4 +1,4 @@
-// The exported calls. Each takes numbers and byte slices of any kind, and answers a number of document 01 with its values.
+// The calls that position_book_c exports. Each takes numbers and byte slices of any kind, and answers a number of document 01 with its values.
 #![tactic(auto)]
 
 ghost use Rattle.std.specs.Prelude.{◌≡◌};
@@ -30,32 +30,28 @@ use row_pairs::pair_row;
 use table_compile::compile;
 
 // Reads a signal alone. Its key and values go one after another to the start of `out`, which must not be shorter than the text.
-#[unsafe(no_mangle)]
-pub extern "C" fn position_book_signal(text: &[u8], out: &mut [u8]) -> SignalAnswer
+pub fn position_book_signal(text: &[u8], out: &mut [u8]) -> SignalAnswer
     ensures { SignalIs (signal_do text.now out.old) out.old out.new result }
 {
     signal_answer(text, out)
 }
 
 // Reads an operate alone, in either spelling.
-#[unsafe(no_mangle)]
-pub extern "C" fn position_book_operate(text: &[u8]) -> OperateAnswer
+pub fn position_book_operate(text: &[u8]) -> OperateAnswer
     ensures { result ≡ operate_answer (operate_alone text.now) }
 {
     operate_answer(text)
 }
 
 // Writes the Chinese name of an operate's code to the start of `out`.
-#[unsafe(no_mangle)]
-pub extern "C" fn position_book_operate_name(code: u32, out: &mut [u8]) -> NameAnswer
+pub fn position_book_operate_name(code: u32, out: &mut [u8]) -> NameAnswer
     ensures { NameIs (name_do code out.old) out.old out.new result }
 {
     operate_name(code, out)
 }
 
 // Compiles the sheet of a text into the table.
-#[unsafe(no_mangle)]
-pub extern "C" fn position_book_compile(text: &[u8], table: &mut [u8]) -> u32
+pub fn position_book_compile(text: &[u8], table: &mut [u8]) -> u32
     ensures { CompileIs (compile_do text.now table.old) table.old table.new result }
 {
     let r = compile(text, table);
@@ -63,8 +59,7 @@ pub extern "C" fn position_book_compile(text: &[u8], table: &mut [u8]) -> u32
 }
 
 // Makes the book one with no bars.
-#[unsafe(no_mangle)]
-pub extern "C" fn position_book_fresh(book: &mut [u8]) -> u32
+pub fn position_book_fresh(book: &mut [u8]) -> u32
     ensures { StoreIs (fresh_do book.old) book.old book.new result }
 {
     let r = fresh(book);
@@ -72,8 +67,7 @@ pub extern "C" fn position_book_fresh(book: &mut [u8]) -> u32
 }
 
 // Feeds a bar and its signals into the book, by the table.
-#[unsafe(no_mangle)]
-pub extern "C" fn position_book_feed(
+pub fn position_book_feed(
     table: &[u8],
     book: &mut [u8],
     id: i64,
@@ -89,8 +83,7 @@ pub extern "C" fn position_book_feed(
 }
 
 // Feeds a bar by a line of the exchange's comma file, `id,YYYY-MM-DD HH:MM:SS+HH:MM,price` without its LF, and its signals into the book.
-#[unsafe(no_mangle)]
-pub extern "C" fn position_book_feed_line(
+pub fn position_book_feed_line(
     table: &[u8],
     book: &mut [u8],
     line: &[u8],
@@ -103,8 +96,7 @@ pub extern "C" fn position_book_feed_line(
 }
 
 // Copies the book to the image.
-#[unsafe(no_mangle)]
-pub extern "C" fn position_book_save(table: &[u8], book: &[u8], image: &mut [u8]) -> u32
+pub fn position_book_save(table: &[u8], book: &[u8], image: &mut [u8]) -> u32
     ensures { StoreIs (save_do table.now book.now image.old) image.old image.new result }
 {
     let r = save(table, book, image);
@@ -112,8 +104,7 @@ pub extern "C" fn position_book_save(table: &[u8], book: &[u8], image: &mut [u8]
 }
 
 // Copies the image back to the book.
-#[unsafe(no_mangle)]
-pub extern "C" fn position_book_restore(table: &[u8], book: &mut [u8], image: &[u8]) -> u32
+pub fn position_book_restore(table: &[u8], book: &mut [u8], image: &[u8]) -> u32
     ensures { StoreIs (restore_do table.now book.old image.now) book.old book.new result }
 {
     let r = restore(table, book, image);
@@ -121,8 +112,7 @@ pub extern "C" fn position_book_restore(table: &[u8], book: &mut [u8], image: &[
 }
 
 // A pair row of the book by its index; its symbol, mark and sequence go one after another to the start of the buffer.
-#[unsafe(no_mangle)]
-pub extern "C" fn position_book_pair_row(
+pub fn position_book_pair_row(
     table: &[u8],
     book: &[u8],
     index: i64,
@@ -135,8 +125,7 @@ pub extern "C" fn position_book_pair_row(
 }
 
 // A hold row of the book by its index.
-#[unsafe(no_mangle)]
-pub extern "C" fn position_book_hold_row(table: &[u8], book: &[u8], index: i64) -> HoldAnswer
+pub fn position_book_hold_row(table: &[u8], book: &[u8], index: i64) -> HoldAnswer
     ensures { result ≡ hold_answer (hold_do table.now book.now index) }
 {
     let r = hold_row(table, book, index);
@@ -144,8 +133,7 @@ pub extern "C" fn position_book_hold_row(table: &[u8], book: &[u8], index: i64) 
 }
 
 // How many hold rows and pair rows the book has.
-#[unsafe(no_mangle)]
-pub extern "C" fn position_book_counts(table: &[u8], book: &[u8]) -> CountsAnswer
+pub fn position_book_counts(table: &[u8], book: &[u8]) -> CountsAnswer
     ensures { result ≡ counts_answer (counts_do table.now book.now) }
 {
     let r = row_counts(table, book);
@@ -153,8 +141,7 @@ pub extern "C" fn position_book_counts(table: &[u8], book: &[u8]) -> CountsAnswe
 }
 
 // The pair rows of the book from number `first` on, one after another to the start of `rows`: as many as fit.
-#[unsafe(no_mangle)]
-pub extern "C" fn position_book_pair_rows(
+pub fn position_book_pair_rows(
     table: &[u8],
     book: &[u8],
     first: i64,
@@ -167,8 +154,7 @@ pub extern "C" fn position_book_pair_rows(
 }
 
 // The hold rows of the book from number `first` on, one after another to the start of `rows`: as many as fit.
-#[unsafe(no_mangle)]
-pub extern "C" fn position_book_hold_rows(
+pub fn position_book_hold_rows(
     table: &[u8],
     book: &[u8],
     first: i64,
@@ -181,8 +167,7 @@ pub extern "C" fn position_book_hold_rows(
 }
 
 // The name of an event of the table by its index, to the start of the buffer.
-#[unsafe(no_mangle)]
-pub extern "C" fn position_book_event_name(
+pub fn position_book_event_name(
     table: &[u8],
     index: i64,
     buffer: &mut [u8],

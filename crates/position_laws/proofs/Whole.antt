@@ -38,10 +38,10 @@ module _ (s : Sheet) (b : Bar) (c : Choice) where
   unfolding going
   going_own lots h = rw (closing_own, closing_own)
 
-plain_own : (s : Sheet) (st : State) (fs : List Fed) → plain_from s st fs ≡ plain_from_by (stopped s) s st fs
+plain_own : (s : Sheet) (fs : List Fed) (st : State) → plain_from s st fs ≡ plain_from_by (stopped s) s st fs
 unfolding plain_from plain_from_by step step_head
-plain_own s st [] = refl
-plain_own s st (f ∷ fs) = rw going_own (plain_own s _ fs)
+plain_own s [] st = refl
+plain_own s (f ∷ fs) st = rw going_own (plain_own s fs _)
 
 -- ---- the test of a whole stop is the one that it was
 
@@ -55,7 +55,7 @@ module _ (w : ℕ) (few : w ≤ 1_000_000) (s : Sheet) (is : s.stop ≡ 100 * w)
 
   pub whole_books : (fs : List Fed) → plain s fs ≡ plain_before w s fs
   unfolding plain
-  whole_books fs = plain_own s fresh_state fs ∙ ap (λ (hit : Test). plain_from_by hit s fresh_state fs) test_whole
+  whole_books fs = plain_own s fs fresh_state ∙ ap (λ (hit : Test). plain_from_by hit s fresh_state fs) test_whole
 
   pub whole_shown : (operate : ℕ) → description_text s operate Stop ≡ close_name operate ++ bytes "@" ++ decimal_of w ++ bytes "BP止损"
   whole_shown operate = ap (λ (t : List ℕ). close_name operate ++ bytes "@" ++ t ++ bytes "BP止损") (ap stop_text is ∙ text-whole w)

@@ -7,7 +7,7 @@ use mathlib.Core.Logic.{◌≢◌}
 use mathlib.Core.Path.{◌≡◌, subst}
 use borrow.Author.Tests.{eq-eqb, ne_eqb}
 use lib.ListN.{length, get_or}
-use Rattle.bytes.specs.Bytes.{index_of, index_after}
+use Rattle.text.specs.Read.{index_of, index_after}
 use Rattle.text.specs.Read.{FirstAt}
 use Rattle.text.specs.Text.{LF}
 use Rattle.text.proofs.Laws.{part_cons}

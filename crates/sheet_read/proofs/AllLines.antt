@@ -8,7 +8,6 @@ use mathlib.Core.Bool.{true, false}
 use mathlib.Core.List.{List, [], ◌∷◌}
 use mathlib.Core.Option.{Option, none, some}
 use borrow.Author.Tests.{le-leb, lt-leb}
-use types.Run.{OneOf}
 use denote.Enum.Declared.{tag_of}
 use lib.ListN.{length}
 use Rattle.text.specs.Answer.{Answer, Refused, Got, ◌>>=◌, given}
@@ -155,12 +154,9 @@ module _ (s es cs : List ℕ) (short : length s ≤ text_limit) (right : utf8 s 
 
 -- ---- as the code tells it
 
-not_0 : (n : ℕ) → 0 ≡ suc n → ⊥
-not_0 n e = omega arith
-
--- an answer whose tag is not that of a sheet
-pub tag_refuses : (r : SheetRead) → OneOf (1 ∷ 2 ∷ 3 ∷ 4 ∷ 5 ∷ 6 ∷ 7 ∷ 8 ∷ []) (tag_of the_type r) → Refuses r
-tag_refuses (Is a) h = ⊎_elim (not_0 0) (⊎_elim (not_0 1) (⊎_elim (not_0 2) (⊎_elim (not_0 3) (⊎_elim (not_0 4) (⊎_elim (not_0 5) (⊎_elim (not_0 6) (not_0 7))))))) h
+-- an answer that is no sheet
+pub tag_refuses : (r : SheetRead) → ((a : SheetAt) → r ≡ Is a → ⊥) → Refuses r
+tag_refuses (Is a) h = absurd (h a refl)
 tag_refuses PastLimit h = tt
 tag_refuses NotUtf8 h = tt
 tag_refuses Malformed h = tt

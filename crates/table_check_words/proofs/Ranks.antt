@@ -3,7 +3,7 @@ use Prim.Native.Nat.{ℕ, ◌+◌, ◌*◌, ◌≤◌, ◌<◌}
 use native.Mathlib.Omega.{arith}
 use mathlib.Core.Bool.{Bool, true, false, cond, ◌&&◌}
 use mathlib.Core.List.{List, [], ◌∷◌}
-use mathlib.Core.Path.{◌≡◌, refl, sym, ◌∙◌}
+use mathlib.Core.Path.{◌≡◌, refl, sym, ap, ◌∙◌}
 use lib.Dec.{ltb, eqb}
 use lib.ListN.{length, get_or, drop, length-map}
 use borrow.Author.Tests.{lt-ltb, le-ltb, ltb-true}
@@ -56,8 +56,11 @@ module _ (l : List ℕ) (n i : ℕ) (ws : List WordRow) where
 
   rank-first : ranks_from os i (word_at l i ∷ ws) ≡ cond (all_of (rank_asked l n i)) (ranks_from os (i + 1) ws) false
   unfolding ranks_from every ranked all_of
-  rank-first = rw (orders-many l n) (go (ltb (word_at l i).order n) (ltb (word_at l i).rank n) refl)
+  rank-first = rw (few, orders-many l n) (go (ltb (word_at l i).order n) (ltb (word_at l i).rank n) refl)
     where
+      few : every (λ (o : ℕ). ltb o (length os)) (orders_of ws) ≡ low
+      few = ap (λ (m : ℕ). every (λ (o : ℕ). ltb o m) (orders_of ws)) (orders-many l n)
+
       last : (a : Bool) → all_of (low ∷ cond a right false ∷ []) ≡ cond (all_of (a ∷ [])) (all_of (low ∷ right ∷ [])) false
       last true = refl
       last false = sym (broken (low ∷ false ∷ []) 1 refl)

@@ -15,22 +15,19 @@ use Rattle.sheet_first.proofs.settings.Goals as goal
 pub returns-in_default : goal.returns-in_default
 returns-in_default c =
     let cut-interval : let a = c.args in Field a.s.now (a.symbol + 1) a.to c.find-a.result =
-    let p = c.requires in
-    field (names-rest p.0) c.find-a.ensures (omega (arith, p.1.0)) in
+    field (names-rest c.requires.names) c.find-a.ensures (omega (arith, c.requires.in_bounds_1)) in
     bad_interval c.requires.names cut-interval (sym (ap number_of c.in_default.is) ∙ c.unsigned.ensures)
 
 pub find-b-requires : goal.find-b-requires
 find-b-requires c =
     let cut-interval : let a = c.args in Field a.s.now (a.symbol + 1) a.to c.find-a.result =
-    let p = c.requires in
-    field (names-rest p.0) c.find-a.ensures (omega (arith, p.1.0)) in
+    field (names-rest c.requires.names) c.find-a.ensures (omega (arith, c.requires.in_bounds_1)) in
     cut-rest cut-interval
 
 pub returns-in_default-unsigned : goal.returns-in_default-unsigned
 returns-in_default-unsigned c =
     let cut-interval : let a = c.args in Field a.s.now (a.symbol + 1) a.to c.find-a.result =
-    let p = c.requires in
-    field (names-rest p.0) c.find-a.ensures (omega (arith, p.1.0)) in
+    field (names-rest c.requires.names) c.find-a.ensures (omega (arith, c.requires.in_bounds_1)) in
     let interval : let a = c.args in
     some c.in-Is.interval ≡ field_of a.s.now interval_limit (a.symbol + 1) c.find-a.result = sym (ap number_of c.in-Is.is) ∙ c.unsigned.ensures in
     let cut-timeout : let a = c.args in
@@ -42,8 +39,7 @@ returns-in_default-unsigned c =
 pub find-c-requires : goal.find-c-requires
 find-c-requires c =
     let cut-interval : let a = c.args in Field a.s.now (a.symbol + 1) a.to c.find-a.result =
-    let p = c.requires in
-    field (names-rest p.0) c.find-a.ensures (omega (arith, p.1.0)) in
+    field (names-rest c.requires.names) c.find-a.ensures (omega (arith, c.requires.in_bounds_1)) in
     let cut-timeout : let a = c.args in
     Field a.s.now (c.find-a.result + 1) a.to c.find-b.result =
     let f = cut-interval in
@@ -53,8 +49,7 @@ find-c-requires c =
 pub returns-in_default-read_stop : goal.returns-in_default-read_stop
 returns-in_default-read_stop c =
     let cut-interval : let a = c.args in Field a.s.now (a.symbol + 1) a.to c.find-a.result =
-    let p = c.requires in
-    field (names-rest p.0) c.find-a.ensures (omega (arith, p.1.0)) in
+    field (names-rest c.requires.names) c.find-a.ensures (omega (arith, c.requires.in_bounds_1)) in
     let interval : let a = c.args in
     some c.in-Is.interval ≡ field_of a.s.now interval_limit (a.symbol + 1) c.find-a.result = sym (ap number_of c.in-Is.is) ∙ c.unsigned.ensures in
     let cut-timeout : let a = c.args in
@@ -72,8 +67,7 @@ returns-in_default-read_stop c =
 pub find-d-requires : goal.find-d-requires
 find-d-requires c =
     let cut-interval : let a = c.args in Field a.s.now (a.symbol + 1) a.to c.find-a.result =
-    let p = c.requires in
-    field (names-rest p.0) c.find-a.ensures (omega (arith, p.1.0)) in
+    field (names-rest c.requires.names) c.find-a.ensures (omega (arith, c.requires.in_bounds_1)) in
     let cut-timeout : let a = c.args in
     Field a.s.now (c.find-a.result + 1) a.to c.find-b.result =
     let f = cut-interval in
@@ -87,8 +81,7 @@ find-d-requires c =
 pub returns-in_default-unsigned-2 : goal.returns-in_default-unsigned-2
 returns-in_default-unsigned-2 c =
     let cut-interval : let a = c.args in Field a.s.now (a.symbol + 1) a.to c.find-a.result =
-    let p = c.requires in
-    field (names-rest p.0) c.find-a.ensures (omega (arith, p.1.0)) in
+    field (names-rest c.requires.names) c.find-a.ensures (omega (arith, c.requires.in_bounds_1)) in
     let interval : let a = c.args in
     some c.in-Is.interval ≡ field_of a.s.now interval_limit (a.symbol + 1) c.find-a.result = sym (ap number_of c.in-Is.is) ∙ c.unsigned.ensures in
     let cut-timeout : let a = c.args in
@@ -111,8 +104,7 @@ returns-in_default-unsigned-2 c =
 pub evening_minutes-requires : goal.evening_minutes-requires
 evening_minutes-requires c =
     let cut-interval : let a = c.args in Field a.s.now (a.symbol + 1) a.to c.find-a.result =
-    let p = c.requires in
-    field (names-rest p.0) c.find-a.ensures (omega (arith, p.1.0)) in
+    field (names-rest c.requires.names) c.find-a.ensures (omega (arith, c.requires.in_bounds_1)) in
     let cut-timeout : let a = c.args in
     Field a.s.now (c.find-a.result + 1) a.to c.find-b.result =
     let f = cut-interval in
@@ -130,8 +122,7 @@ evening_minutes-requires c =
 pub returns-in_default-evening_minutes : goal.returns-in_default-evening_minutes
 returns-in_default-evening_minutes c =
     let cut-interval : let a = c.args in Field a.s.now (a.symbol + 1) a.to c.find-a.result =
-    let p = c.requires in
-    field (names-rest p.0) c.find-a.ensures (omega (arith, p.1.0)) in
+    field (names-rest c.requires.names) c.find-a.ensures (omega (arith, c.requires.in_bounds_1)) in
     let interval : let a = c.args in
     some c.in-Is.interval ≡ field_of a.s.now interval_limit (a.symbol + 1) c.find-a.result = sym (ap number_of c.in-Is.is) ∙ c.unsigned.ensures in
     let cut-timeout : let a = c.args in
@@ -155,8 +146,7 @@ returns-in_default-evening_minutes c =
 pub returns : goal.returns
 returns c =
     let cut-interval : let a = c.args in Field a.s.now (a.symbol + 1) a.to c.find-a.result =
-    let p = c.requires in
-    field (names-rest p.0) c.find-a.ensures (omega (arith, p.1.0)) in
+    field (names-rest c.requires.names) c.find-a.ensures (omega (arith, c.requires.in_bounds_1)) in
     let interval : let a = c.args in
     some c.in-Is.interval ≡ field_of a.s.now interval_limit (a.symbol + 1) c.find-a.result = sym (ap number_of c.in-Is.is) ∙ c.unsigned.ensures in
     let cut-timeout : let a = c.args in

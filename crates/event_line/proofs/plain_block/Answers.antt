@@ -1,0 +1,14 @@
+-- `event_line::plain_block` meets its contract: `Looked` is the invariant. Assumes nothing.
+use Prim.Native.Nat.{◌-◌}
+use Rattle.event_line.proofs.Blocks.{looked_start, looked_more, looked_end}
+use Rattle.event_line.proofs.plain_block.Goals as goal
+
+pub loop-k-init : goal.loop-k-init
+loop-k-init c = looked_start _ _
+
+pub loop-k-preserved : goal.loop-k-preserved
+loop-k-preserved c =
+    looked_more c.loop-k.invariant c.loop-k-test.true c.place.ensures c.lesser-first.ensures
+
+pub returns : goal.returns
+returns c = looked_end c.loop-k.invariant c.loop-k-test.false
