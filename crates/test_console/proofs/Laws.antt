@@ -7,7 +7,7 @@ use lib.ListN.{length}
 use lib.Seq.{length-take-le}
 use lib.Signed.{mag}
 use borrow.Author.Tests.{lt-ltb}
-use Rattle.io.specs.Counts.{IsPrefixLen}
+use Rattle.test_console.specs.Counts.{IsPrefixLen}
 use Rattle.le.specs.Le.{signed}
 
 pub small : (v : ℕ) → v < 2 ^ 61 → mag (signed 63 v) < 2 ^ 61

@@ -1,7 +1,7 @@
 // Reading what a question gives. What is missing or malformed reads as 0.
 ghost use Rattle.std.specs.Prelude.{◌<◌, ◌≤◌, ◌^◌, length};
 ghost use Rattle.std.specs.Int.Signed.{mag};
-ghost use Rattle.io.specs.Counts.{IsPrefixLen};
+ghost use Rattle.test_console.specs.Counts.{IsPrefixLen};
 
 use bar::Instant;
 use double::Side;

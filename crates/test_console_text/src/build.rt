@@ -33,8 +33,8 @@ fn line(s: &[u8], out: &mut [u8], used: usize) -> usize {
 fn mark(b: u8, number: u64, out: &mut [u8], used: usize) -> usize {
     if b == b'#' {
         let mut digits = [0u8; 20];
-        let n = io::decimal(number, &mut digits);
-        return bytes(&digits[..n], out, used);
+        let n = text_write::put_decimal(&mut digits, 0, number);
+        return bytes(taken(&digits, n), out, used);
     }
     byte(b, out, used)
 }

@@ -1,5 +1,6 @@
 // A table, a book or an image that is lent, by its letter: T, B, or I.
 use crate::raw;
+use std::io;
 use test_console::ask;
 use test_console::ask::field;
 
@@ -23,21 +24,29 @@ fn put(s: &[u8], table: &mut [u8], book: &mut [u8], image: &mut [u8]) {
 }
 
 // `H|X|from|to`: bytes shown.
-fn dump(s: &[u8], table: &[u8], book: &[u8], image: &[u8]) {
+fn dump(rt: &impl Print, s: &[u8], table: &[u8], book: &[u8], image: &[u8]) -> io::Result<()> {
     let from = ask::place(field(s, 2));
     let to = ask::place(field(s, 3));
     match letter(field(s, 1)) {
-        b'T' => raw::dump(table, from, to),
-        b'B' => raw::dump(book, from, to),
-        _ => raw::dump(image, from, to),
+        b'T' => raw::dump(rt, table, from, to),
+        b'B' => raw::dump(rt, book, from, to),
+        _ => raw::dump(rt, image, from, to),
     }
 }
 
 // Runs a line of one of these letters; one of another does nothing.
-pub fn touched(tag: u8, s: &[u8], table: &mut [u8], book: &mut [u8], image: &mut [u8]) {
+pub fn touched(
+    rt: &impl Print,
+    tag: u8,
+    s: &[u8],
+    table: &mut [u8],
+    book: &mut [u8],
+    image: &mut [u8],
+) -> io::Result<()> {
     match tag {
-        b'H' => dump(s, table, book, image),
+        b'H' => return dump(rt, s, table, book, image),
         b'P' => put(s, table, book, image),
-        _ => return,
+        _ => {}
     }
+    Ok(())
 }

@@ -1,6 +1,6 @@
 // Bytes that are changed and shown, whatever they mean.
 use le::wide;
-use libc::STDOUT_FILENO;
+use std::io;
 use test_console::{ask, show};
 
 // The bytes that `hex` writes in hexadecimal take the place of those from `at` on.
@@ -11,15 +11,17 @@ pub fn change(b: &mut [u8], at: usize, hex: &[u8]) {
 }
 
 // The bytes in from..to in hexadecimal.
-pub fn dump(b: &[u8], from: usize, to: usize) {
+pub fn dump(rt: &impl Print, b: &[u8], from: usize, to: usize) -> io::Result<()> {
     if b.len() < to {
-        return;
+        return Ok(());
     }
     let mut at = from;
     while at < to {
-        io::print_hex(STDOUT_FILENO, wide(b[at]) as u64, 2);
+        let x = b[at];
+        print!(rt; "{x:02x}")?;
         at += 1;
     }
+    Ok(())
 }
 
 // A number that tells most bytes from others.
@@ -34,8 +36,8 @@ fn fingerprint(b: &[u8]) -> u64 {
 }
 
 // The number of an answer, and the fingerprint of the bytes that the call may change.
-pub fn ended(n: u32, b: &[u8]) {
-    show::number(n as u64);
-    show::next();
-    show::number(fingerprint(b));
+pub fn ended(rt: &impl Print, n: u32, b: &[u8]) -> io::Result<()> {
+    show::number(rt, n as u64)?;
+    show::next(rt)?;
+    show::number(rt, fingerprint(b))
 }

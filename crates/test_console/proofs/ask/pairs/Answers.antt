@@ -1,7 +1,6 @@
 -- `test_console::ask::pairs` meets its contract. The loop's invariant: what is read and what is written are within their slices. Assumes nothing.
 use lib.ListN.{length-set}
 use native.Mathlib.Omega.{arith}
-use Prim.Native.Nat.{◌-◌}
 use Rattle.test_console.proofs.Laws.{counts}
 use Rattle.test_console.proofs.ask.pairs.Goals as goal
 

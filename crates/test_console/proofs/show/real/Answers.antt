@@ -4,4 +4,4 @@ use Rattle.double.proofs.Tests.{number}
 use Rattle.test_console.proofs.show.real.Goals as goal
 
 pub put_f64-requires : goal.put_f64-requires
-put_f64-requires c = (omega arith, number c.args.x c.if-x.false)
+put_f64-requires g c = (omega arith, number c.args.x c.if-x.false)

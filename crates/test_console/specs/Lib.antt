@@ -1,0 +1,2 @@
+-- What the contracts of `test_console` cite.
+pub mod Counts
