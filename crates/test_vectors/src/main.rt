@@ -2,70 +2,72 @@
 // with the answer behind ` = `. Lines that begin with `#` are written back as they are. docs/MAP.md lists the kinds of question.
 #![tactic(auto)]
 
-use libc::STDIN_FILENO;
+use std::io;
+use test_console::input::read_full;
 use test_console::show;
 use text::{LF, find};
 
 // Answers the question in s by its first letter.
-fn answer(s: &[u8]) {
+fn answer(rt: &impl Print, s: &[u8]) -> io::Result<()> {
     if s.len() < 2 {
-        return;
+        return Ok(());
     }
     let tag = s[0];
     let rest = &s[2..];
     match tag {
-        b'B' => test_vectors_numbers::bytes(rest),
-        b'C' => test_vectors_texts::operate_name(rest),
-        b'D' => test_vectors_numbers::decimal(rest),
-        b'E' => test_vectors_numbers::seconds(rest),
-        b'F' => test_vectors_numbers::finite(rest),
-        b'G' => test_vectors_numbers::day(rest),
-        b'H' => test_vectors_numbers::hold_yield(rest),
-        b'I' => test_vectors_numbers::int(rest),
-        b'K' => test_vectors_numbers::stop(rest),
-        b'N' => test_vectors_numbers::parts(rest),
-        b'O' => test_vectors_texts::operate(rest),
-        b'P' => test_vectors_numbers::pair_yield(rest),
-        b'R' => test_vectors_numbers::round(rest),
-        b'S' => test_vectors_texts::signal(rest),
-        b'T' => test_vectors_numbers::time(rest),
-        b'U' => test_vectors_texts::utf8(rest),
-        b'V' => test_vectors_texts::value(rest),
-        b'W' => test_vectors_numbers::written(rest),
-        b'X' => test_vectors_texts::operate_bytes(rest),
-        b'Y' => test_vectors_texts::signal_bytes(rest),
-        b'Z' => test_vectors_numbers::stop_field(rest),
-        b'z' => test_vectors_numbers::stop_shown(rest),
-        _ => show::text(b"?"),
+        b'B' => test_vectors_numbers::bytes(rt, rest),
+        b'C' => test_vectors_texts::operate_name(rt, rest),
+        b'D' => test_vectors_numbers::decimal(rt, rest),
+        b'E' => test_vectors_numbers::seconds(rt, rest),
+        b'F' => test_vectors_numbers::finite(rt, rest),
+        b'G' => test_vectors_numbers::day(rt, rest),
+        b'H' => test_vectors_numbers::hold_yield(rt, rest),
+        b'I' => test_vectors_numbers::int(rt, rest),
+        b'K' => test_vectors_numbers::stop(rt, rest),
+        b'N' => test_vectors_numbers::parts(rt, rest),
+        b'O' => test_vectors_texts::operate(rt, rest),
+        b'P' => test_vectors_numbers::pair_yield(rt, rest),
+        b'R' => test_vectors_numbers::round(rt, rest),
+        b'S' => test_vectors_texts::signal(rt, rest),
+        b'T' => test_vectors_numbers::time(rt, rest),
+        b'U' => test_vectors_texts::utf8(rt, rest),
+        b'V' => test_vectors_texts::value(rt, rest),
+        b'W' => test_vectors_numbers::written(rt, rest),
+        b'X' => test_vectors_texts::operate_bytes(rt, rest),
+        b'Y' => test_vectors_texts::signal_bytes(rt, rest),
+        b'Z' => test_vectors_numbers::stop_field(rt, rest),
+        b'z' => test_vectors_numbers::stop_shown(rt, rest),
+        _ => show::text(rt, b"?"),
     }
 }
 
 // Writes a line back, with its answer where it asks something.
-fn line(s: &[u8]) {
-    show::text(s);
+fn line(rt: &impl Print, s: &[u8]) -> io::Result<()> {
+    show::text(rt, s)?;
     if 0 < s.len() {
         if s[0] != b'#' {
-            show::text(b" = ");
-            answer(s);
+            show::text(rt, b" = ")?;
+            answer(rt, s)?;
         }
     }
-    show::text(b"\n");
+    show::text(rt, b"\n")
 }
 
 // Answers each line of s.
-fn lines(s: &[u8]) {
+fn lines(rt: &impl Print, s: &[u8]) -> io::Result<()> {
     let n = s.len();
     let mut at = 0;
     while at < n {
         let end = find(s, at, n, LF);
-        line(&s[at..end]);
+        line(rt, &s[at..end])?;
         at = end + 1;
     }
+    Ok(())
 }
 
 // Reads at most 100,000 bytes.
-fn main() {
+fn main(rt: HostRuntime) -> io::Result<()> {
     let mut space = [0u8; 100000];
-    let n = io::read_full(STDIN_FILENO, &mut space);
-    lines(&space[..n]);
+    let n = read_full(&mut rt.stdin(), &mut space)?;
+    lines(&rt, &space[..n])
 }

@@ -3,87 +3,88 @@
 
 use position_book_answer_alone::{operate_answer, signal_answer};
 use signal::ValueRead;
+use std::io;
 use test_console::show::next;
 use test_console::{ask, show};
 
 // U|bytes: whether they are UTF-8, given as hexadecimal digits.
-pub fn utf8(s: &[u8]) {
+pub fn utf8(rt: &impl Print, s: &[u8]) -> io::Result<()> {
     let mut space = [0u8; 64];
     let n = ask::pairs(s, &mut space);
-    show::flag(utf8_text::valid(&space[..n]));
+    show::flag(rt, utf8_text::valid(&space[..n]))
 }
 
 // O|text: an operate alone.
-pub fn operate(s: &[u8]) {
+pub fn operate(rt: &impl Print, s: &[u8]) -> io::Result<()> {
     let a = operate_answer(s);
-    show::number(a.number as u64);
-    next();
-    show::number(a.code as u64);
+    show::number(rt, a.number as u64)?;
+    next(rt)?;
+    show::number(rt, a.code as u64)
 }
 
 // C|code: its Chinese name.
-pub fn operate_name(s: &[u8]) {
+pub fn operate_name(rt: &impl Print, s: &[u8]) -> io::Result<()> {
     let mut space = [0u8; 16];
     let code = ask::number(s) % 4294967296;
     let a = position_book_answer_alone::operate_name(code as u32, &mut space);
-    show::number(a.number as u64);
-    next();
-    show::part(&space, 0, a.length);
+    show::number(rt, a.number as u64)?;
+    next(rt)?;
+    show::part(rt, &space, 0, a.length)
 }
 
 // X|bytes: an operate alone, given as hexadecimal digits.
-pub fn operate_bytes(s: &[u8]) {
+pub fn operate_bytes(rt: &impl Print, s: &[u8]) -> io::Result<()> {
     let mut space = [0u8; 64];
     let n = ask::pairs(s, &mut space);
-    operate(&space[..n]);
+    operate(rt, &space[..n])
 }
 
 // Shows n bytes of s at `at` behind a bar, and answers the place behind them.
-fn piece(s: &[u8], at: usize, n: usize) -> usize {
-    next();
+fn piece(rt: &impl Print, s: &[u8], at: usize, n: usize) -> io::Result<usize> {
+    next(rt)?;
     if s.len() < at {
-        return at;
+        return Ok(at);
     }
     if s.len() - at < n {
-        return at;
+        return Ok(at);
     }
-    show::part(s, at, at + n);
-    at + n
+    show::part(rt, s, at, at + n)?;
+    Ok(at + n)
 }
 
 // S|text: a signal alone: its number, key, values and score.
-pub fn signal(s: &[u8]) {
-    let mut space = io::large_buffer();
+pub fn signal(rt: &impl Print, s: &[u8]) -> io::Result<()> {
+    let mut space = [0u8; 65536];
     let a = signal_answer(s, &mut space);
-    show::number(a.number as u64);
-    let p = piece(&space, 0, a.key);
-    let q = piece(&space, p, a.v1);
-    let r = piece(&space, q, a.v2);
-    piece(&space, r, a.v3);
-    next();
-    show::number(a.score);
+    show::number(rt, a.number as u64)?;
+    let p = piece(rt, &space, 0, a.key)?;
+    let q = piece(rt, &space, p, a.v1)?;
+    let r = piece(rt, &space, q, a.v2)?;
+    piece(rt, &space, r, a.v3)?;
+    next(rt)?;
+    show::number(rt, a.score)
 }
 
 // Y|bytes: a signal alone, given as hexadecimal digits.
-pub fn signal_bytes(s: &[u8]) {
+pub fn signal_bytes(rt: &impl Print, s: &[u8]) -> io::Result<()> {
     let mut space = [0u8; 64];
     let n = ask::pairs(s, &mut space);
-    signal(&space[..n]);
+    signal(rt, &space[..n])
 }
 
 // V|text: a bar's value: its three parts and its score.
-pub fn value(s: &[u8]) {
+pub fn value(rt: &impl Print, s: &[u8]) -> io::Result<()> {
     match signal::read_value(s) {
         ValueRead::Counts(v) => {
             let score = v.score;
-            show::part(s, 0, v.v1);
-            next();
-            show::part(s, v.v1 + 1, v.v2);
-            next();
-            show::part(s, v.v2 + 1, v.v3);
-            next();
-            show::int(score);
+            show::part(rt, s, 0, v.v1)?;
+            next(rt)?;
+            show::part(rt, s, v.v1 + 1, v.v2)?;
+            next(rt)?;
+            show::part(rt, s, v.v2 + 1, v.v3)?;
+            next(rt)?;
+            show::int(rt, score)
         }
-        ValueRead::Absent => show::text(b"-"),
+        ValueRead::Absent => show::text(rt, b"-"),
     }
 }

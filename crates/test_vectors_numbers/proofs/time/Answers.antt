@@ -8,6 +8,6 @@ use Rattle.bar.proofs.Steps.{local_small}
 use Rattle.test_vectors_numbers.proofs.time.Goals as goal
 
 pub day-requires : goal.day-requires
-day-requires c =
+day-requires g c =
     let fits : SFits w32 c.offset-offset.result = record { sfits = c.offset-offset.type_inv } in
     rw (c.local-local.ensures ∙ ap (local_time _) (to_z-of_z {w = w32} fits)) (local_small _ _ c.instant-instant.ensures fits)

@@ -5,7 +5,7 @@ use mathlib.Core.Path.{subst}
 use Rattle.test_vectors_texts.proofs.value.Goals as goal
 
 pub next-requires : goal.next-requires
-next-requires c =
+next-requires g c =
     let places : ValueOk c.args.s.now c.v.given.0.0 =
     let s = c.args.s.now in
     subst (PlacesOk s) c.v.given.1 c.read-value.ensures.ok in
@@ -13,7 +13,7 @@ next-requires c =
     omega arith
 
 pub next-requires-in-Counts : goal.next-requires-in-Counts
-next-requires-in-Counts c =
+next-requires-in-Counts g c =
     let places : ValueOk c.args.s.now c.v.given.0.0 =
     let s = c.args.s.now in
     subst (PlacesOk s) c.v.given.1 c.read-value.ensures.ok in
