@@ -19,20 +19,22 @@
 // A call's answer begins with its number and ends with a fingerprint of the bytes that it may change. `C`, `B` and `X` empty the text.
 #![tactic(auto)]
 
-use libc::STDIN_FILENO;
+use std::io;
 use test_books_line::{Lent, line};
+use test_console::input::read_full;
 use test_console::show;
 use text::{LF, find};
 
 // Runs each line of s, and writes it back.
 fn lines(
+    rt: &impl Print,
     s: &[u8],
     text: &mut [u8],
     table: &mut [u8],
     book: &mut [u8],
     image: &mut [u8],
     row: &mut [u8],
-) {
+) -> io::Result<()> {
     let n = s.len();
     let mut l = Lent {
         text: 0,
@@ -46,27 +48,29 @@ fn lines(
         let from = at;
         let end = find(s, from, n, LF);
         at = end + 1;
-        show::text(&s[from..end]);
-        l = line(&s[from..end], l, text, table, book, image, row);
-        show::text(b"\n");
+        show::text(rt, &s[from..end])?;
+        l = line(rt, &s[from..end], l, text, table, book, image, row)?;
+        show::text(rt, b"\n")?;
     }
+    Ok(())
 }
 
 // Reads at most 100,000 bytes. A text has room for 20,000.
-fn main() {
+fn main(rt: HostRuntime) -> io::Result<()> {
     let mut space = [0u8; 100000];
-    let n = io::read_full(STDIN_FILENO, &mut space);
+    let n = read_full(&mut rt.stdin(), &mut space)?;
     let mut text = [0u8; 20000];
     let mut table = [0u8; 33000];
     let mut book = [0u8; 20000];
     let mut image = [0u8; 20000];
     let mut row = [0u8; 4096];
     lines(
+        &rt,
         &space[..n],
         &mut text,
         &mut table,
         &mut book,
         &mut image,
         &mut row,
-    );
+    )
 }

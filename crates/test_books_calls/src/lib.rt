@@ -6,72 +6,73 @@ use book_feed::{Feed, feed_bar};
 use book_feed_line::feed_line;
 use book_store::{fresh, restore, save};
 use position::{Decision, Description, Pos, Report};
+use std::io;
 use test_console::ask::field;
 use test_console::show::next;
 use test_console::{ask, show};
 use test_console_text::raw::ended;
 
 // `N`: makes the book fresh.
-fn made(book: &mut [u8]) {
+fn made(rt: &impl Print, book: &mut [u8]) -> io::Result<()> {
     let r = fresh(book);
-    ended(r.number(), book);
+    ended(rt, r.number(), book)
 }
 
 // `S`: saves the book.
-fn saved(table: &[u8], book: &[u8], image: &mut [u8]) {
+fn saved(rt: &impl Print, table: &[u8], book: &[u8], image: &mut [u8]) -> io::Result<()> {
     let r = save(table, book, image);
-    ended(r.number(), image);
+    ended(rt, r.number(), image)
 }
 
 // `R`: restores the book.
-fn restored(table: &[u8], book: &mut [u8], image: &[u8]) {
+fn restored(rt: &impl Print, table: &[u8], book: &mut [u8], image: &[u8]) -> io::Result<()> {
     let r = restore(table, book, image);
-    ended(r.number(), book);
+    ended(rt, r.number(), book)
 }
 
 // -1, 0 or 1.
-fn position(p: Pos) {
+fn position(rt: &impl Print, p: Pos) -> io::Result<()> {
     match p {
-        Pos::Short => show::text(b"-1"),
-        Pos::Flat => show::text(b"0"),
-        Pos::Long => show::text(b"1"),
+        Pos::Short => show::text(rt, b"-1"),
+        Pos::Flat => show::text(rt, b"0"),
+        Pos::Long => show::text(rt, b"1"),
     }
 }
 
 // The event's index, or the stop or the timeout.
-fn description(d: Description) {
+fn description(rt: &impl Print, d: Description) -> io::Result<()> {
     match d {
-        Description::Event(i) => show::number(i as u64),
-        Description::Stop => show::text(b"stop"),
-        Description::Timeout => show::text(b"timeout"),
+        Description::Event(i) => show::number(rt, i as u64),
+        Description::Stop => show::text(rt, b"stop"),
+        Description::Timeout => show::text(rt, b"timeout"),
     }
 }
 
 // What a feed says of an accepted bar.
-fn report(r: Report) {
+fn report(rt: &impl Print, r: Report) -> io::Result<()> {
     let p = r.pos;
     let d = r.decision;
-    position(p);
-    next();
-    show::flag(r.changed);
-    next();
+    position(rt, p)?;
+    next(rt)?;
+    show::flag(rt, r.changed)?;
+    next(rt)?;
     match d {
-        Decision::Nothing => show::text(b"-"),
-        Decision::By(d) => description(d),
+        Decision::Nothing => show::text(rt, b"-")?,
+        Decision::By(d) => description(rt, d)?,
     }
-    next();
+    next(rt)
 }
 
 // What a feed answers.
-fn answered(r: Feed, book: &[u8]) {
+fn answered(rt: &impl Print, r: Feed, book: &[u8]) -> io::Result<()> {
     if let Feed::Done(said) = r {
-        report(said);
+        report(rt, said)?;
     }
-    ended(r.number(), book);
+    ended(rt, r.number(), book)
 }
 
 // `B|id|instant|offset|price`: feeds a bar with its signals.
-fn fed(s: &[u8], signals: &[u8], table: &[u8], book: &mut [u8]) {
+fn fed(rt: &impl Print, s: &[u8], signals: &[u8], table: &[u8], book: &mut [u8]) -> io::Result<()> {
     let id = ask::signed(field(s, 1));
     let instant = ask::signed(field(s, 2));
     let offset = ask::signed(field(s, 3));
@@ -84,26 +85,40 @@ fn fed(s: &[u8], signals: &[u8], table: &[u8], book: &mut [u8]) {
         ask::real(field(s, 4)),
         signals,
     );
-    answered(r, book);
+    answered(rt, r, book)
 }
 
 // `X|line`: feeds the bar that the line says with its signals.
-fn fed_line(s: &[u8], signals: &[u8], table: &[u8], book: &mut [u8]) {
+fn fed_line(
+    rt: &impl Print,
+    s: &[u8],
+    signals: &[u8],
+    table: &[u8],
+    book: &mut [u8],
+) -> io::Result<()> {
     if s.len() < 2 {
-        return;
+        return Ok(());
     }
     let r = feed_line(table, book, &s[2..], signals);
-    answered(r, book);
+    answered(rt, r, book)
 }
 
 // Runs a line of one of these letters; one of another does nothing.
-pub fn called(tag: u8, s: &[u8], signals: &[u8], table: &[u8], book: &mut [u8], image: &mut [u8]) {
+pub fn called(
+    rt: &impl Print,
+    tag: u8,
+    s: &[u8],
+    signals: &[u8],
+    table: &[u8],
+    book: &mut [u8],
+    image: &mut [u8],
+) -> io::Result<()> {
     match tag {
-        b'N' => made(book),
-        b'B' => fed(s, signals, table, book),
-        b'X' => fed_line(s, signals, table, book),
-        b'S' => saved(table, book, image),
-        b'R' => restored(table, book, image),
-        _ => return,
+        b'N' => made(rt, book),
+        b'B' => fed(rt, s, signals, table, book),
+        b'X' => fed_line(rt, s, signals, table, book),
+        b'S' => saved(rt, table, book, image),
+        b'R' => restored(rt, table, book, image),
+        _ => Ok(()),
     }
 }

@@ -3,6 +3,7 @@
 
 use book_feed::{Feed, feed_bar};
 use book_store::{Stored, save};
+use std::io;
 use test_console::ask::field;
 use test_console::{ask, show};
 
@@ -38,7 +39,14 @@ fn passes(full: bool, table: &[u8], book: &mut [u8], image: &mut [u8]) -> bool {
 }
 
 // `F|mask|from|to` and `G|mask|from|to`: the places where the book, with this byte changed, passes.
-pub fn changed(full: bool, s: &[u8], table: &[u8], book: &mut [u8], image: &mut [u8]) {
+pub fn changed(
+    rt: &impl Print,
+    full: bool,
+    s: &[u8],
+    table: &[u8],
+    book: &mut [u8],
+    image: &mut [u8],
+) -> io::Result<()> {
     let mask = (ask::number(field(s, 1)) % 256) as u8;
     let mut at = ask::place(field(s, 2));
     let to = ask::place(field(s, 3));
@@ -46,10 +54,11 @@ pub fn changed(full: bool, s: &[u8], table: &[u8], book: &mut [u8], image: &mut 
     while at < to {
         change(book, at, mask);
         if passes(full, table, book, image) {
-            show::place(at, first);
+            show::place(rt, at, first)?;
             first = false;
         }
         change(book, at, mask);
         at += 1;
     }
+    Ok(())
 }

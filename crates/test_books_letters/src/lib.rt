@@ -1,6 +1,7 @@
 // Code only: runs one line of the program `test_books`, whose file says what each letter asks, on the bytes that are lent.
 #![tactic(auto)]
 
+use std::io;
 use test_books_calls::called;
 use test_books_checks::changed;
 use test_books_rows::asked;
@@ -18,6 +19,7 @@ fn asks(tag: u8) -> bool {
 
 // Runs a line, and shows ` = ` and the answer where it asks something; one that adds to the text does nothing here.
 pub fn inspect(
+    rt: &impl Print,
     tag: u8,
     s: &[u8],
     text: &[u8],
@@ -25,16 +27,16 @@ pub fn inspect(
     book: &mut [u8],
     image: &mut [u8],
     row: &mut [u8],
-) {
+) -> io::Result<()> {
     if asks(tag) {
-        show::text(b" = ");
+        show::text(rt, b" = ")?;
     }
     match tag {
-        b'C' => test_tables_asked::compiled(text, table),
-        b'E' | b'V' | b'W' => asked(tag, s, table, book, row),
-        b'F' | b'G' => changed(tag == b'F', s, table, book, image),
-        b'H' | b'P' => touched(tag, s, table, book, image),
-        _ => called(tag, s, text, table, book, image),
+        b'C' => test_tables_asked::compiled(rt, text, table),
+        b'E' | b'V' | b'W' => asked(rt, tag, s, table, book, row),
+        b'F' | b'G' => changed(rt, tag == b'F', s, table, book, image),
+        b'H' | b'P' => touched(rt, tag, s, table, book, image),
+        _ => called(rt, tag, s, text, table, book, image),
     }
 }
 

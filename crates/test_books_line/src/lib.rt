@@ -1,6 +1,7 @@
 // Code only: runs one line of the program `test_books` on what is lent of its buffers.
 #![tactic(auto)]
 
+use std::io;
 use test_books_letters::{grown, inspect};
 use test_console::ask;
 use test_console::ask::field;
@@ -37,6 +38,7 @@ fn cut(b: &mut [u8], asked: usize) -> &mut [u8] {
 
 // Runs a line.
 pub fn line(
+    rt: &impl Print,
     s: &[u8],
     l: Lent,
     text: &mut [u8],
@@ -44,16 +46,17 @@ pub fn line(
     book: &mut [u8],
     image: &mut [u8],
     row: &mut [u8],
-) -> Lent {
+) -> io::Result<Lent> {
     if s.len() == 0 {
-        return l;
+        return Ok(l);
     }
     let tag = s[0];
     if tag == b'L' {
-        return lend(s, l);
+        return Ok(lend(s, l));
     }
     let used = l.text;
     inspect(
+        rt,
         tag,
         s,
         build::taken(text, used),
@@ -61,12 +64,12 @@ pub fn line(
         cut(book, l.book),
         cut(image, l.image),
         cut(row, l.row),
-    );
-    Lent {
+    )?;
+    Ok(Lent {
         text: grown(tag, &s[1..], text, used),
         table: l.table,
         book: l.book,
         image: l.image,
         row: l.row,
-    }
+    })
 }

@@ -7,27 +7,28 @@ use position::{HoldRow, PairRow};
 use row_holds::{HoldRead, hold_row};
 use row_names::{NameRead, event_name};
 use row_pairs::{PairRead, pair_row};
+use std::io;
 use test_console::ask::field;
 use test_console::show::next;
 use test_console::{ask, show};
 use test_console_text::raw::ended;
 
 // L or S.
-fn side(x: Side) {
+fn side(rt: &impl Print, x: Side) -> io::Result<()> {
     match x {
-        Side::Long => show::text(b"L"),
-        Side::Short => show::text(b"S"),
+        Side::Long => show::text(rt, b"L"),
+        Side::Short => show::text(rt, b"S"),
     }
 }
 
 // A local time.
-fn local(t: LocalTime) {
-    show::signed(t.micros());
-    next();
+fn local(rt: &impl Print, t: LocalTime) -> io::Result<()> {
+    show::signed(rt, t.micros())?;
+    next(rt)
 }
 
 // The values of a pair, and its texts.
-fn shown(p: PairRow, row: &[u8]) {
+fn shown(rt: &impl Print, p: PairRow, row: &[u8]) -> io::Result<()> {
     let x = p.side;
     let a = p.opened;
     let z = p.closed;
@@ -35,93 +36,99 @@ fn shown(p: PairRow, row: &[u8]) {
     let m = p.symbol;
     let n = p.mark;
     let q = p.sequence;
-    side(x);
-    next();
-    local(a);
-    local(z);
-    show::real(p.from);
-    next();
-    show::real(p.to);
-    next();
-    show::signed(p.ids);
-    next();
-    show::real(p.days);
-    next();
-    show::yields(y);
-    next();
-    texts(row, m, n, q);
+    side(rt, x)?;
+    next(rt)?;
+    local(rt, a)?;
+    local(rt, z)?;
+    show::real(rt, p.from)?;
+    next(rt)?;
+    show::real(rt, p.to)?;
+    next(rt)?;
+    show::signed(rt, p.ids)?;
+    next(rt)?;
+    show::real(rt, p.days)?;
+    next(rt)?;
+    show::yields(rt, y)?;
+    next(rt)?;
+    texts(rt, row, m, n, q)
 }
 
 // Three texts, one behind another.
-fn texts(row: &[u8], m: usize, n: usize, q: usize) {
+fn texts(rt: &impl Print, row: &[u8], m: usize, n: usize, q: usize) -> io::Result<()> {
     if row.len() < m {
-        return;
+        return Ok(());
     }
     if row.len() - m < n {
-        return;
+        return Ok(());
     }
     if row.len() - m - n < q {
-        return;
+        return Ok(());
     }
-    show::part(row, 0, m);
-    next();
-    show::part(row, m, m + n);
-    next();
-    show::part(row, m + n, m + n + q);
-    next();
+    show::part(rt, row, 0, m)?;
+    next(rt)?;
+    show::part(rt, row, m, m + n)?;
+    next(rt)?;
+    show::part(rt, row, m + n, m + n + q)?;
+    next(rt)
 }
 
 // `V|i`: a pair row.
-fn pair(s: &[u8], table: &[u8], book: &[u8], row: &mut [u8]) {
+fn pair(rt: &impl Print, s: &[u8], table: &[u8], book: &[u8], row: &mut [u8]) -> io::Result<()> {
     let r = pair_row(table, book, ask::signed(field(s, 1)), row);
     if let PairRead::Row(p) = r {
-        shown(p, row);
-        ended(0, row);
-        next();
-        show::number(p.lots as u64);
-        return;
+        shown(rt, p, row)?;
+        ended(rt, 0, row)?;
+        next(rt)?;
+        return show::number(rt, p.lots as u64);
     }
-    ended(r.number(), row);
+    ended(rt, r.number(), row)
 }
 
 // The values of a hold.
-fn held(o: HoldRow) {
+fn held(rt: &impl Print, o: HoldRow) -> io::Result<()> {
     let t = o.local;
     let y = o.n1b;
-    local(t);
-    show::signed32(o.pos);
-    next();
-    show::real(o.price);
-    next();
-    show::yields(y);
-    next();
+    local(rt, t)?;
+    show::signed32(rt, o.pos)?;
+    next(rt)?;
+    show::real(rt, o.price)?;
+    next(rt)?;
+    show::yields(rt, y)?;
+    next(rt)
 }
 
 // `W|i`: a hold row.
-fn hold(s: &[u8], table: &[u8], book: &[u8]) {
+fn hold(rt: &impl Print, s: &[u8], table: &[u8], book: &[u8]) -> io::Result<()> {
     let r = hold_row(table, book, ask::signed(field(s, 1)));
     if let HoldRead::Row(o) = r {
-        held(o);
+        held(rt, o)?;
     }
-    show::number(r.number() as u64);
+    show::number(rt, r.number() as u64)
 }
 
 // `E|i`: an event's name.
-fn name(s: &[u8], table: &[u8], row: &mut [u8]) {
+fn name(rt: &impl Print, s: &[u8], table: &[u8], row: &mut [u8]) -> io::Result<()> {
     let r = event_name(table, ask::signed(field(s, 1)), row);
     if let NameRead::Length(n) = r {
-        show::part(row, 0, n);
-        next();
+        show::part(rt, row, 0, n)?;
+        next(rt)?;
     }
-    ended(r.number(), row);
+    ended(rt, r.number(), row)
 }
 
 // Runs a line of one of these letters; one of another does nothing.
-pub fn asked(tag: u8, s: &[u8], table: &[u8], book: &[u8], row: &mut [u8]) {
+pub fn asked(
+    rt: &impl Print,
+    tag: u8,
+    s: &[u8],
+    table: &[u8],
+    book: &[u8],
+    row: &mut [u8],
+) -> io::Result<()> {
     match tag {
-        b'V' => pair(s, table, book, row),
-        b'W' => hold(s, table, book),
-        b'E' => name(s, table, row),
-        _ => return,
+        b'V' => pair(rt, s, table, book, row),
+        b'W' => hold(rt, s, table, book),
+        b'E' => name(rt, s, table, row),
+        _ => Ok(()),
     }
 }

@@ -5,8 +5,10 @@
 ghost use Rattle.std.specs.Prelude.{◌≡◌, ◌≤◌, length};
 ghost use Rattle.run_feed.specs.Steps.{output_room};
 
-use libc::{STDIN_FILENO, STDOUT_FILENO};
 use run_text::{paper_out, run};
+use std::io;
+use test_console::input::read_full;
+use test_console::show;
 use text::{LF, find};
 use text_number::{Number, decimal};
 
@@ -21,16 +23,16 @@ fn paper_in() -> [u8; SET_ROOM]
 }
 
 // Runs one case, and prints what it says.
-fn case(input: &[u8], out: &mut [u8])
+fn case(rt: &impl Print, input: &[u8], out: &mut [u8]) -> io::Result<()>
     requires { output_room ≤ length out.old }
     ensures { length out.new ≡ length out.old }
 {
     let k = run(input, out);
-    io::write_all(STDOUT_FILENO, &out[..k]);
+    show::text(rt, &out[..k])
 }
 
 // Runs each case of s. A malformed length ends it, and what is expected of the later cases is then missing.
-fn cases(s: &[u8], out: &mut [u8])
+fn cases(rt: &impl Print, s: &[u8], out: &mut [u8]) -> io::Result<()>
     requires { output_room ≤ length out.old }
 {
     let n = s.len();
@@ -38,24 +40,25 @@ fn cases(s: &[u8], out: &mut [u8])
     while at < n {
         let end = find(s, at, n, LF);
         if end == n {
-            return;
+            return Ok(());
         }
         let Number::Is(size) = decimal(s, at, end, 10) else {
-            return;
+            return Ok(());
         };
         let from = end + 1;
         let length = size as usize;
         if n - from < length {
-            return;
+            return Ok(());
         }
         at = from + length;
-        case(&s[from..at], out);
+        case(rt, &s[from..at], out)?;
     }
+    Ok(())
 }
 
-fn main() {
+fn main(rt: HostRuntime) -> io::Result<()> {
     let mut set = paper_in();
-    let n = io::read_full(STDIN_FILENO, &mut set);
+    let n = read_full(&mut rt.stdin(), &mut set)?;
     let mut out = paper_out();
-    cases(&set[..n], &mut out);
+    cases(&rt, &set[..n], &mut out)
 }

@@ -14,8 +14,9 @@
 // `C` and `M` empty the text.
 #![tactic(auto)]
 
-use libc::STDIN_FILENO;
+use std::io;
 use test_console::ask::field;
+use test_console::input::read_full;
 use test_console::{ask, show};
 use test_console_text::{build, raw};
 use text::{LF, find};
@@ -37,59 +38,73 @@ fn empties(tag: u8) -> bool {
 }
 
 // Runs a line on the text and the table; one that adds to the text does nothing here.
-fn inspect(tag: u8, s: &[u8], text: &[u8], table: &mut [u8]) {
+fn inspect(rt: &impl Print, tag: u8, s: &[u8], text: &[u8], table: &mut [u8]) -> io::Result<()> {
     match tag {
-        b'C' => test_tables_asked::compiled(text, table),
-        b'M' => test_tables_asked::matched(text, table),
-        b'F' => test_tables_asked::changed(s, table),
-        b'H' => raw::dump(table, ask::place(field(s, 1)), ask::place(field(s, 2))),
+        b'C' => return test_tables_asked::compiled(rt, text, table),
+        b'M' => return test_tables_asked::matched(rt, text, table),
+        b'F' => return test_tables_asked::changed(rt, s, table),
+        b'H' => return raw::dump(rt, table, ask::place(field(s, 1)), ask::place(field(s, 2))),
         b'P' => raw::change(table, ask::place(field(s, 1)), field(s, 2)),
-        b'T' => test_tables_asked::accepted(table),
-        _ => return,
+        b'T' => return test_tables_asked::accepted(rt, table),
+        _ => {}
     }
+    Ok(())
 }
 
 // Runs a line, and answers how many bytes of the text are taken then.
-fn run(s: &[u8], text: &mut [u8], used: usize, table: &mut [u8]) -> usize {
+fn run(
+    rt: &impl Print,
+    s: &[u8],
+    text: &mut [u8],
+    used: usize,
+    table: &mut [u8],
+) -> io::Result<usize> {
     if s.len() == 0 {
-        return used;
+        return Ok(used);
     }
     let tag = s[0];
     if asks(tag) {
-        show::text(b" = ");
+        show::text(rt, b" = ")?;
     }
-    inspect(tag, s, build::taken(text, used), table);
+    inspect(rt, tag, s, build::taken(text, used), table)?;
     if empties(tag) {
-        return 0;
+        return Ok(0);
     }
-    build::added(tag, &s[1..], text, used)
+    Ok(build::added(tag, &s[1..], text, used))
 }
 
 // Runs a line and writes it back.
-fn line(s: &[u8], text: &mut [u8], used: usize, table: &mut [u8]) -> usize {
-    show::text(s);
-    let n = run(s, text, used, table);
-    show::text(b"\n");
-    n
+fn line(
+    rt: &impl Print,
+    s: &[u8],
+    text: &mut [u8],
+    used: usize,
+    table: &mut [u8],
+) -> io::Result<usize> {
+    show::text(rt, s)?;
+    let n = run(rt, s, text, used, table)?;
+    show::text(rt, b"\n")?;
+    Ok(n)
 }
 
 // Runs each line of s.
-fn lines(s: &[u8], text: &mut [u8], table: &mut [u8]) {
+fn lines(rt: &impl Print, s: &[u8], text: &mut [u8], table: &mut [u8]) -> io::Result<()> {
     let n = s.len();
     let mut used = 0;
     let mut at = 0;
     while at < n {
         let end = find(s, at, n, LF);
-        used = line(&s[at..end], text, used, table);
+        used = line(rt, &s[at..end], text, used, table)?;
         at = end + 1;
     }
+    Ok(())
 }
 
 // Reads at most 65,536 bytes. A text has room for 20,000.
-fn main() {
-    let mut space = io::large_buffer();
-    let n = io::read_full(STDIN_FILENO, &mut space);
+fn main(rt: HostRuntime) -> io::Result<()> {
+    let mut space = [0u8; 65536];
+    let n = read_full(&mut rt.stdin(), &mut space)?;
     let mut text = [0u8; 20000];
     let mut table = [0u8; 32768];
-    lines(&space[..n], &mut text, &mut table);
+    lines(&rt, &space[..n], &mut text, &mut table)
 }
