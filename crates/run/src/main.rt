@@ -2,9 +2,11 @@
 #![tactic(auto)]
 
 ghost use Rattle.std.specs.Prelude.{◌≡◌, length};
+ghost use Rattle.std.specs.Io.{ReadsAtMost};
 
-use libc::{STDIN_FILENO, STDOUT_FILENO};
 use run_text::{INPUT_ROOM, paper_out, run};
+use std::io;
+use std::io::Read;
 
 // Room for an input, and to tell a longer one. Only the length is told, which lending asks for.
 fn paper_in() -> [u8; INPUT_ROOM]
@@ -13,10 +15,25 @@ fn paper_in() -> [u8; INPUT_ROOM]
     [0u8; INPUT_ROOM]
 }
 
-fn main() {
+// Reads until `space` is full or the input ends, and answers how many bytes stand at its start then. A read that fails is the error.
+fn read_full(reader: &mut impl Read, space: &mut [u8]) -> io::Result<usize>
+    ensures { ReadsAtMost result space.new }
+{
+    let mut done = 0;
+    while done < space.len() {
+        let n = reader.read(&mut space[done..])?;
+        if n == 0 {
+            break;
+        }
+        done += n;
+    }
+    Ok(done)
+}
+
+fn main(rt: HostRuntime) -> io::Result<()> {
     let mut input = paper_in();
-    let n = io::read_full(STDIN_FILENO, &mut input);
+    let n = read_full(&mut rt.stdin(), &mut input)?;
     let mut out = paper_out();
     let k = run(&input[..n], &mut out);
-    io::write_all(STDOUT_FILENO, &out[..k]);
+    rt.write_all(&out[..k])
 }
