@@ -13,4 +13,4 @@ pub returns-then-p-eq1 : goal.returns-then-p-eq1
 returns-then-p-eq1 c = rw c.if-p-eq1.true c.present_ok.ensures
 
 pub returns : goal.returns
-returns c = reference-other _ _ c.if-p-eq0.false c.if-p-eq1.false
+returns c = reference-other c.args.b.now c.args.p c.if-p-eq0.false c.if-p-eq1.false

@@ -3,6 +3,7 @@ use mathlib.Core.Path.{ap, subst}
 use Rattle.text.specs.Literal.{bytes, encoded}
 use Rattle.table.specs.Layout.{counts_in, parts_in}
 use Rattle.table.specs.Table.{sheet_of}
+use Rattle.table_match.proofs.Sound.{head-room}
 use Rattle.row_sequence.specs.Named.{NamedIn}
 use Rattle.row_sequence.proofs.Parts.{part_as, event_part, stop-part, timeout-part}
 use Rattle.row_sequence.proofs.put_description.Goals as goal
@@ -23,3 +24,9 @@ pub returns-in-Timeout : goal.returns-in-Timeout
 unfolding bytes encoded parts_in sheet_of
 returns-in-Timeout c =
     part_as (timeout-part (sheet_of (parts_in c.args.t.now)) c.args.r c.in-Timeout.is (ap (λ s. s.timeout) c.read_settings-s-in-Timeout.ensures)) c.put_closing-in-Timeout.ensures
+
+pub read_settings-s-requires : goal.read_settings-s-requires
+read_settings-s-requires c = head-room _ c.requires.t_value
+
+pub read_settings-s-requires-in-Timeout : goal.read_settings-s-requires-in-Timeout
+read_settings-s-requires-in-Timeout c = head-room _ c.requires.t_value

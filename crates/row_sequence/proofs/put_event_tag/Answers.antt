@@ -2,7 +2,7 @@
 use mathlib.Core.Path.{◌≡◌, ◌∙◌, refl, sym}
 use mathlib.Core.Bool.{true, false}
 use Rattle.text.specs.Literal.{bytes, encoded}
-use Rattle.operate.specs.Operate.{LO, LE, SO}
+use Rattle.operate.specs.Operate.{latin, LO, LE, SO}
 use Rattle.position.specs.Rows.{tagged}
 use Rattle.row_sequence.proofs.Tags.{tag_put}
 use Rattle.row_sequence.proofs.put_event_tag.Goals as goal
@@ -31,7 +31,7 @@ returns-then-is_tagged-4 c =
     let no-1 : false ≡ tagged LO c.args.desc.now = sym c.if-is_tagged.false ∙ c.is_tagged.ensures in
     let no-2 : false ≡ tagged SO c.args.desc.now = sym c.if-is_tagged-2.false ∙ c.is_tagged-2.ensures in
     let no-3 : false ≡ tagged LE c.args.desc.now = sym c.if-is_tagged-3.false ∙ c.is_tagged-3.ensures in
-    tag_put _ {c = true} no-1 no-2 no-3 (sym c.if-is_tagged-4.true ∙ c.is_tagged-4.ensures) c.put_part-then-is_tagged-4.ensures
+    tag_put _ {e = true} no-1 no-2 no-3 (sym c.if-is_tagged-4.true ∙ c.is_tagged-4.ensures) c.put_part-then-is_tagged-4.ensures
 
 pub returns : goal.returns
 unfolding bytes encoded
@@ -39,4 +39,20 @@ returns c =
     let no-1 : false ≡ tagged LO c.args.desc.now = sym c.if-is_tagged.false ∙ c.is_tagged.ensures in
     let no-2 : false ≡ tagged SO c.args.desc.now = sym c.if-is_tagged-2.false ∙ c.is_tagged-2.ensures in
     let no-3 : false ≡ tagged LE c.args.desc.now = sym c.if-is_tagged-3.false ∙ c.is_tagged-3.ensures in
-    tag_put _ {c = false} no-1 no-2 no-3 (sym c.if-is_tagged-4.false ∙ c.is_tagged-4.ensures) c.put_part-2.ensures
+    tag_put _ {e = false} no-1 no-2 no-3 (sym c.if-is_tagged-4.false ∙ c.is_tagged-4.ensures) c.put_part-2.ensures
+
+pub is_tagged-requires-clause-latin_value : goal.is_tagged-requires-clause-latin_value
+unfolding latin bytes encoded
+is_tagged-requires-clause-latin_value c = refl
+
+pub is_tagged-requires-2-clause-latin_value : goal.is_tagged-requires-2-clause-latin_value
+unfolding latin bytes encoded
+is_tagged-requires-2-clause-latin_value c = refl
+
+pub is_tagged-requires-3-clause-latin_value : goal.is_tagged-requires-3-clause-latin_value
+unfolding latin bytes encoded
+is_tagged-requires-3-clause-latin_value c = refl
+
+pub is_tagged-requires-4-clause-latin_value : goal.is_tagged-requires-4-clause-latin_value
+unfolding latin bytes encoded
+is_tagged-requires-4-clause-latin_value c = refl
