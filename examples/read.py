@@ -1,6 +1,6 @@
 #!/usr/bin/env python3
 """Reads what the run program prints, with times of day for microseconds and decimal numbers for the bits of doubles:
-target/bin/run < examples/season | python3 examples/read.py"""
+crates/run/out/run < examples/season | python3 examples/read.py"""
 import datetime
 import struct
 import sys

@@ -86,7 +86,7 @@ fn crossing(shape: &Shape) -> Shape {
 
 /// What the library exports.
 fn exported() -> (BTreeMap<String, Shape>, BTreeMap<String, Shape>) {
-    let calls_text = read("crates/position_book/src/lib.rt");
+    let calls_text = read("crates/position_book_c/src/lib.rt");
     let mut shapes = structs(&read("crates/position_book_answer/src/lib.rt"));
     shapes.extend(structs(&read(
         "crates/position_book_answer_alone/src/lib.rt",

@@ -84,7 +84,7 @@ fn number(operands: &str) -> usize {
 /// The function that a line names by its section or its symbol: `58: R_X86_64_PLT32 .text.utf8::valid-0x4`.
 fn called(line: &str) -> Option<String> {
     let (_, symbol) = line.split_once("R_X86_64_")?.1.split_once('\t')?;
-    let symbol = symbol.split(['-', '+']).next()?;
+    let symbol = symbol.rsplit_once(['-', '+']).map_or(symbol, |cut| cut.0);
     let name = symbol.strip_prefix(".text.").unwrap_or(symbol);
     (!name.starts_with('.')).then(|| name.to_string())
 }
