@@ -19,10 +19,13 @@ fn main() {
             }
         }
     }
+    let archives = root.join("target/staticlib");
     if env::var_os("POSITION_BOOK_BUILT").is_none() {
         build(&root);
+    } else {
+        let archive = archives.join("libposition_book.a");
+        println!("cargo:rerun-if-changed={}", archive.display());
     }
-    let archives = root.join("target/staticlib");
     println!("cargo:rustc-link-search=native={}", archives.display());
     println!("cargo:rustc-link-lib=static=position_book");
 }

@@ -91,7 +91,8 @@ fn exported() -> (BTreeMap<String, Shape>, BTreeMap<String, Shape>) {
     shapes.extend(structs(&read(
         "crates/position_book_answer_alone/src/lib.rt",
     )));
-    let calls = calls(&calls_text, "pub extern \"C\" fn ", &['\n', '{'])
+    let mark = "#[unsafe(no_mangle)]\npub extern \"C\" fn ";
+    let calls = calls(&calls_text, mark, &['\n', '{'])
         .into_iter()
         .map(|(name, shape)| (name, crossing(&shape)))
         .collect();
