@@ -48,7 +48,7 @@ unfoldable pub ended : List (List ℕ) → List ℕ
 ended ps = flat_map (λ p. p ++ LF ∷ []) ps
 
 -- "id, instant and offset are decimal and reach the feed as i64, offset perhaps after `-`, instants up to 16 digits. Price is 16
--- lower_case hexadecimal digits of bits"; "field count (2) or a malformed B field (3)"
+-- lower-case hexadecimal digits of bits"; "field count (2) or a malformed B field (3)"
 unfoldable pub bar_line : List (List ℕ) → Answer Input
 bar_line f = do
   _ ← must 2 (eqb (length f) 5)

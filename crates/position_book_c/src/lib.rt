@@ -1,4 +1,4 @@
-// The exports: each calls the function of its name in position_book, and promises the same.
+// Code only: the exports: each calls the function of its name in position_book, and promises the same.
 #![tactic(auto)]
 
 ghost use Rattle.std.specs.Prelude.{◌≡◌};

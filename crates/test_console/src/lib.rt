@@ -1,4 +1,4 @@
-// Code only: what the programs that answer stored questions share: reading standard input and the fields of a line, and writing answers.
+// What the programs that answer stored questions share: reading standard input and the fields of a line, and writing answers.
 #![tactic(auto)]
 
 pub mod ask;
