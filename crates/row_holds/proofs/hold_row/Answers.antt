@@ -12,16 +12,16 @@ use Rattle.row_holds.proofs.hold_row.Goals as goal
 pub returns-in_default : goal.returns-in_default
 returns-in_default c =
     let a = c.args in
-    wrong_length _ _ a.i (subst (SizedAs a.table.now a.b.now) c.in_default.is c.type_size.ensures)
+    wrong_length _ _ a.i (subst (SizedAs a.table.now a.b.now) c.in_default.is c.size_of.ensures)
 
 pub check_book-requires : goal.check_book-requires
 check_book-requires c =
-    let sized : SizedAs c.args.table.now c.args.b.now (Bars c.in-Bars.c) = subst (SizedAs c.args.table.now c.args.b.now) c.in-Bars.is c.type_size.ensures in
+    let sized : SizedAs c.args.table.now c.args.b.now (Bars c.in-Bars.c) = subst (SizedAs c.args.table.now c.args.b.now) c.in-Bars.is c.size_of.ensures in
     sized.ok.1
 
 pub row_at-requires : goal.row_at-requires
 row_at-requires c =
-    let sized : SizedAs c.args.table.now c.args.b.now (Bars c.in-Bars.c) = subst (SizedAs c.args.table.now c.args.b.now) c.in-Bars.is c.type_size.ensures in
+    let sized : SizedAs c.args.table.now c.args.b.now (Bars c.in-Bars.c) = subst (SizedAs c.args.table.now c.args.b.now) c.in-Bars.is c.size_of.ensures in
     let checked : (q : Checked) → c.check_book.result ≡ q
     → CheckedAs c.args.table.now c.in-Bars.c c.args.b.now q = λ q e.
     let a = c.args in
@@ -30,7 +30,7 @@ row_at-requires c =
 
 pub returns-in-NotTable : goal.returns-in-NotTable
 returns-in-NotTable c =
-    let sized : SizedAs c.args.table.now c.args.b.now (Bars c.in-Bars.c) = subst (SizedAs c.args.table.now c.args.b.now) c.in-Bars.is c.type_size.ensures in
+    let sized : SizedAs c.args.table.now c.args.b.now (Bars c.in-Bars.c) = subst (SizedAs c.args.table.now c.args.b.now) c.in-Bars.is c.size_of.ensures in
     let checked : (q : Checked) → c.check_book.result ≡ q
     → CheckedAs c.args.table.now c.in-Bars.c c.args.b.now q = λ q e.
     let a = c.args in
@@ -39,7 +39,7 @@ returns-in-NotTable c =
 
 pub returns-in-NotBook : goal.returns-in-NotBook
 returns-in-NotBook c =
-    let sized : SizedAs c.args.table.now c.args.b.now (Bars c.in-Bars.c) = subst (SizedAs c.args.table.now c.args.b.now) c.in-Bars.is c.type_size.ensures in
+    let sized : SizedAs c.args.table.now c.args.b.now (Bars c.in-Bars.c) = subst (SizedAs c.args.table.now c.args.b.now) c.in-Bars.is c.size_of.ensures in
     let checked : (q : Checked) → c.check_book.result ≡ q
     → CheckedAs c.args.table.now c.in-Bars.c c.args.b.now q = λ q e.
     let a = c.args in
@@ -48,9 +48,9 @@ returns-in-NotBook c =
 
 pub returns-in-Passed : goal.returns-in-Passed
 returns-in-Passed c =
-    let sized : SizedAs c.args.table.now c.args.b.now (Bars c.in-Bars.c) = subst (SizedAs c.args.table.now c.args.b.now) c.in-Bars.is c.type_size.ensures in
+    let sized : SizedAs c.args.table.now c.args.b.now (Bars c.in-Bars.c) = subst (SizedAs c.args.table.now c.args.b.now) c.in-Bars.is c.size_of.ensures in
     let checked : (q : Checked) → c.check_book.result ≡ q
     → CheckedAs c.args.table.now c.in-Bars.c c.args.b.now q = λ q e.
     let a = c.args in
     subst (CheckedAs a.table.now c.in-Bars.c a.b.now) e c.check_book.ensures in
-    answered _ _ _ sized (checked _ c.in-Passed.is) (c.row_at.ensures ∙ ap (given 15) (index_back _ c.args.i c.fits.i))
+    answered _ _ _ sized (checked _ c.in-Passed.is) (c.row_at.ensures ∙ ap (given 15) (index_back _ c.args.i c.ranges.i))

@@ -2,10 +2,10 @@
 use Prim.Native.Nat.{◌+◌, ◌-◌, ◌<◌}
 use native.Mathlib.Omega.{arith}
 use mathlib.Core.Path.{◌∙◌, sym}
-use mathlib.Core.Logic.{⊎_elim}
 use Rattle.le.specs.Field.{u32}
 use Rattle.row_pairs.proofs.Find.{seeking_first, seeking_last, seeking_hit, seeking_opened, seeking_passed}
 use Rattle.row_pairs.proofs.find_pair.Goals as goal
+use Rattle.row_pairs.proofs.find_pair.Goals.{then-is_opening+else-left-eq0, else-is_opening}
 
 pub loop-j-init : goal.loop-j-init
 loop-j-init c = seeking_first _ _ _ _ c.requires.from_bound
@@ -19,10 +19,10 @@ pub loop-j-preserved : goal.loop-j-preserved
 loop-j-preserved c =
     let more : c.loop-j.j + 1 < u32 c.args.b.now 4 = omega (arith, c.loop-j-test.true, c.get_u32-n.ensures) in
     let r = c.loop-j.invariant in
-    ⊎_elim
-    (λ v. rw v.2 (seeking_opened r more (sym v.0.taken ∙ c.is_opening.ensures) v.1.left))
-    (λ v. rw v.1 (seeking_passed r more (sym v.0.left ∙ c.is_opening.ensures)))
-    c.if-is_opening.branch
+    elim c.if-is_opening.branch [
+      | then-is_opening+else-left-eq0 w ↦ rw w.left-is (seeking_opened r more (sym w.if-is_opening.true ∙ c.is_opening.ensures) w.if-left-eq0.false)
+      | else-is_opening w ↦ rw w.left-is (seeking_passed r more (sym w.if-is_opening.false ∙ c.is_opening.ensures))
+    ]
 
 pub returns : goal.returns
 returns c = seeking_last c.loop-j.invariant (omega (arith, c.loop-j-test.false, c.get_u32-n.ensures))

@@ -14,16 +14,16 @@ use Rattle.row_pairs.proofs.pair_row.Goals as goal
 pub returns-in_default : goal.returns-in_default
 returns-in_default c =
     let a = c.args in
-    wrong_length _ _ _ _ (subst (SizedAs a.table.now a.b.now) c.in_default.is c.type_size.ensures)
+    wrong_length _ _ _ _ (subst (SizedAs a.table.now a.b.now) c.in_default.is c.size_of.ensures)
 
 pub returns-then-buffer-lt-ROW_BUFFER : goal.returns-then-buffer-lt-ROW_BUFFER
 returns-then-buffer-lt-ROW_BUFFER c =
-    let sized : SizedAs c.args.table.now c.args.b.now (Bars c.in-Bars.c) = subst (SizedAs c.args.table.now c.args.b.now) c.in-Bars.is c.type_size.ensures in
+    let sized : SizedAs c.args.table.now c.args.b.now (Bars c.in-Bars.c) = subst (SizedAs c.args.table.now c.args.b.now) c.in-Bars.is c.size_of.ensures in
     short_buffer _ _ _ _ sized c.if-buffer-lt-ROW_BUFFER.true
 
 pub check_book-requires : goal.check_book-requires
 check_book-requires c =
-    let sized : SizedAs c.args.table.now c.args.b.now (Bars c.in-Bars.c) = subst (SizedAs c.args.table.now c.args.b.now) c.in-Bars.is c.type_size.ensures in
+    let sized : SizedAs c.args.table.now c.args.b.now (Bars c.in-Bars.c) = subst (SizedAs c.args.table.now c.args.b.now) c.in-Bars.is c.size_of.ensures in
     sized.ok.1
 
 pub row_at-requires : goal.row_at-requires
@@ -32,13 +32,13 @@ row_at-requires c =
     → CheckedAs c.args.table.now c.in-Bars.c c.args.b.now q = λ q e.
     let a = c.args in
     subst (CheckedAs a.table.now c.in-Bars.c a.b.now) e c.check_book.ensures in
-    let sized : SizedAs c.args.table.now c.args.b.now (Bars c.in-Bars.c) = subst (SizedAs c.args.table.now c.args.b.now) c.in-Bars.is c.type_size.ensures in
+    let sized : SizedAs c.args.table.now c.args.b.now (Bars c.in-Bars.c) = subst (SizedAs c.args.table.now c.args.b.now) c.in-Bars.is c.size_of.ensures in
     let k = (checked _ c.in-Passed.is).ok in
     record { t_value = k.0; traded = traded _ _ _ sized.ok.1 k.1; row_buffer_in_bounds = c.if-buffer-lt-ROW_BUFFER.false }
 
 pub returns-in-NotTable : goal.returns-in-NotTable
 returns-in-NotTable c =
-    let sized : SizedAs c.args.table.now c.args.b.now (Bars c.in-Bars.c) = subst (SizedAs c.args.table.now c.args.b.now) c.in-Bars.is c.type_size.ensures in
+    let sized : SizedAs c.args.table.now c.args.b.now (Bars c.in-Bars.c) = subst (SizedAs c.args.table.now c.args.b.now) c.in-Bars.is c.size_of.ensures in
     let checked : (q : Checked) → c.check_book.result ≡ q
     → CheckedAs c.args.table.now c.in-Bars.c c.args.b.now q = λ q e.
     let a = c.args in
@@ -47,7 +47,7 @@ returns-in-NotTable c =
 
 pub returns-in-NotBook : goal.returns-in-NotBook
 returns-in-NotBook c =
-    let sized : SizedAs c.args.table.now c.args.b.now (Bars c.in-Bars.c) = subst (SizedAs c.args.table.now c.args.b.now) c.in-Bars.is c.type_size.ensures in
+    let sized : SizedAs c.args.table.now c.args.b.now (Bars c.in-Bars.c) = subst (SizedAs c.args.table.now c.args.b.now) c.in-Bars.is c.size_of.ensures in
     let checked : (q : Checked) → c.check_book.result ≡ q
     → CheckedAs c.args.table.now c.in-Bars.c c.args.b.now q = λ q e.
     let a = c.args in
@@ -56,10 +56,10 @@ returns-in-NotBook c =
 
 pub returns-in-Passed : goal.returns-in-Passed
 returns-in-Passed c =
-    let sized : SizedAs c.args.table.now c.args.b.now (Bars c.in-Bars.c) = subst (SizedAs c.args.table.now c.args.b.now) c.in-Bars.is c.type_size.ensures in
+    let sized : SizedAs c.args.table.now c.args.b.now (Bars c.in-Bars.c) = subst (SizedAs c.args.table.now c.args.b.now) c.in-Bars.is c.size_of.ensures in
     let checked : (q : Checked) → c.check_book.result ≡ q
     → CheckedAs c.args.table.now c.in-Bars.c c.args.b.now q = λ q e.
     let a = c.args in
     subst (CheckedAs a.table.now c.in-Bars.c a.b.now) e c.check_book.ensures in
     passed _ _ _ _ sized c.if-buffer-lt-ROW_BUFFER.false (checked _ c.in-Passed.is)
-    (subst (λ o. Answered (given 15 o) c.args.buffer.now c.row_at.new.buffer c.row_at.result) (index_back _ c.args.i c.fits.i) c.row_at.ensures)
+    (subst (λ o. Answered (given 15 o) c.args.buffer.now c.row_at.new.buffer c.row_at.result) (index_back _ c.args.i c.ranges.i) c.row_at.ensures)

@@ -33,4 +33,4 @@ pair_at-requires c =
 pub returns : goal.returns
 returns c =
     let found : FoundAs c.args.c c.args.b.now 0 (nat_abs (back w64 c.args.i)) (At c.in-At.j) = subst (FoundAs c.args.c c.args.b.now 0 (nat_abs (back w64 c.args.i))) c.in-At.is c.find_pair.ensures in
-    answered-row (index_is _ c.args.i c.fits.i c.if-i-lt0.false ∙ found_some (sheet_of (parts_in c.args.t.now)) found) c.pair_at.ensures
+    answered-row (index_is _ c.args.i c.ranges.i c.if-i-lt0.false ∙ found_some (sheet_of (parts_in c.args.t.now)) found) c.pair_at.ensures

@@ -1,0 +1,28 @@
+-- The tag, the LF and six fields, then what the fields say. Assumes nothing.
+use mathlib.Core.Path.{◌∙◌, sym}
+use Rattle.text.proofs.Tested.{no, yes}
+use Rattle.revise_first.proofs.Fields.{first-other, first_open, first_count, first-room, first_five, first-is}
+use Rattle.revise_first.proofs.read_first.Goals as goal
+
+pub returns-then-not-is_bar : goal.returns-then-not-is_bar
+returns-then-not-is_bar c = first-other c.requires (no c.is_bar.ensures c.if-not-is_bar.true)
+
+pub returns-then-s-last-ne-LF : goal.returns-then-s-last-ne-LF
+returns-then-s-last-ne-LF c =
+    first_open c.requires (yes c.is_bar.ensures c.if-not-is_bar.false) c.if-s-last-ne-LF.true
+
+pub returns-then-count_parts-ne6 : goal.returns-then-count_parts-ne6
+returns-then-count_parts-ne6 c =
+    first_count c.requires (yes c.is_bar.ensures c.if-not-is_bar.false) c.if-s-last-ne-LF.false (λ e. c.if-count_parts-ne6.true (c.count_parts.ensures ∙ e))
+
+pub read_fields-requires : goal.read_fields-requires
+read_fields-requires c =
+    let e = c.requires in
+    let b = yes c.is_bar.ensures c.if-not-is_bar.false in
+    let h = c.if-s-last-ne-LF.false in
+    record { part = first-room e b h; s_len = first_five e b h (sym c.count_parts.ensures ∙ c.if-count_parts-ne6.false) }
+
+pub returns : goal.returns
+returns c =
+    first-is c.requires (yes c.is_bar.ensures c.if-not-is_bar.false) c.if-s-last-ne-LF.false (sym c.count_parts.ensures ∙ c.if-count_parts-ne6.false)
+    c.read_fields.ensures
