@@ -1,4 +1,5 @@
 -- 16, 17, or the feed of the line's numbers. Assumes nothing.
+use borrow.Author.Rules.{rules}
 use mathlib.Core.Path.{refl, sym, ap, ◌∙◌}
 use Rattle.bar_line_read.specs.Read.{line_read_of}
 use Rattle.book_feed_line.proofs.Line.{line_refused, line_read}
@@ -7,12 +8,11 @@ use Rattle.book_feed_line.proofs.read_and_feed.Goals as goal
 pub returns-in-Bar : goal.returns-in-Bar
 returns-in-Bar c =
     let a = c.args in
-    let n = c.n-1.given in
-    line_read a.t.now a.b.now a.c a.line.now a.s.now n.0.0
-    (ap line_read_of (sym n.1) ∙ c.read_line.ensures)
-    (record { sfits = c.struct_told-1.given.0.1 })
-    (record { sfits = c.struct_told-in-Bar-1.given.1.0.1 })
-    (record { sfits = c.struct_told-in-Bar-2-1.given.1.1.0.1 })
+    line_read a.t.now a.b.now a.c a.line.now a.s.now c.in-Bar.n
+    (ap line_read_of (sym c.in-Bar.is) ∙ c.read_line.ensures)
+    (search rules)
+    (search rules)
+    (search rules)
     c.feed_numbers.ensures
 
 pub returns-in-Malformed : goal.returns-in-Malformed
