@@ -167,11 +167,7 @@ pub fn position_book_hold_rows(
 }
 
 // The name of an event of the table by its index, to the start of the buffer.
-pub fn position_book_event_name(
-    table: &[u8],
-    index: i64,
-    buffer: &mut [u8],
-) -> NameAnswer
+pub fn position_book_event_name(table: &[u8], index: i64, buffer: &mut [u8]) -> NameAnswer
     ensures { EventNameIs (event_name_do table.now index buffer.old) buffer.old buffer.new result }
 {
     let r = event_name(table, index, buffer);

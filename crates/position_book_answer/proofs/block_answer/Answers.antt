@@ -12,4 +12,4 @@ returns-in-Rows c = ap (λ (x : BlockRead). block_answer (block_read_of x)) (sym
 
 pub returns-in_default : goal.returns-in_default
 returns-in_default c =
-    ap (λ n. block_answer (Refused n)) c.number.ensures ∙ ap block_answer (block_refused c.args.r c.in_default.in_default-own.keys2)
+    ap (λ n. block_answer (Refused n)) c.number.ensures ∙ ap block_answer (block_refused c.args.r c.in_default.not-Rows)

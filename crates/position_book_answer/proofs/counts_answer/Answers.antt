@@ -12,4 +12,4 @@ returns-in-Counts c = ap (λ (x : CountsRead). counts_answer (counts_read_of x))
 
 pub returns-in_default : goal.returns-in_default
 returns-in_default c =
-    ap (λ n. counts_answer (Refused n)) c.number.ensures ∙ ap counts_answer (counts-refused c.args.r c.in_default.in_default-own.keys2)
+    ap (λ n. counts_answer (Refused n)) c.number.ensures ∙ ap counts_answer (counts-refused c.args.r c.in_default.not-Counts)

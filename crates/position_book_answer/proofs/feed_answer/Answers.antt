@@ -12,4 +12,4 @@ returns-in-Done c after = c.accepted_feed.ensures ∙ ap (λ (x : Feed). feed_an
 
 pub returns-in_default : goal.returns-in_default
 returns-in_default c after =
-    c.refused_feed.ensures ∙ ap (λ n. feed_answer (Refused n)) c.number.ensures ∙ ap feed_answer (feed_refused after c.args.r c.in_default.in_default-own.keys2)
+    c.refused_feed.ensures ∙ ap (λ n. feed_answer (Refused n)) c.number.ensures ∙ ap feed_answer (feed_refused after c.args.r c.in_default.not-Done)

@@ -12,4 +12,4 @@ returns-in-Row c = c.found_hold.ensures ∙ ap (λ (x : HoldRead). hold_answer (
 
 pub returns-in_default : goal.returns-in_default
 returns-in_default c =
-    c.refused_hold.ensures ∙ ap (λ n. hold_answer (Refused n)) c.number.ensures ∙ ap hold_answer (hold_refused c.args.r c.in_default.in_default-own.keys2)
+    c.refused_hold.ensures ∙ ap (λ n. hold_answer (Refused n)) c.number.ensures ∙ ap hold_answer (hold_refused c.args.r c.in_default.not-Row)

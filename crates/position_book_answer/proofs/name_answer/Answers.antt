@@ -12,4 +12,4 @@ returns-in-Length c = ap (λ (x : NameRead). length_answer (name_read_of x)) (sy
 
 pub returns-in_default : goal.returns-in_default
 returns-in_default c =
-    ap (λ n. length_answer (Refused n)) c.number.ensures ∙ ap length_answer (name-refused c.args.r c.in_default.in_default-own.keys2)
+    ap (λ n. length_answer (Refused n)) c.number.ensures ∙ ap length_answer (name-refused c.args.r c.in_default.not-Length)

@@ -12,4 +12,4 @@ returns-in-Row c = c.found_pair.ensures ∙ ap (λ (x : PairRead). pair_answer (
 
 pub returns-in_default : goal.returns-in_default
 returns-in_default c =
-    c.refused_pair.ensures ∙ ap (λ n. pair_answer (Refused n)) c.number.ensures ∙ ap pair_answer (pair_refused c.args.r c.in_default.in_default-own.keys2)
+    c.refused_pair.ensures ∙ ap (λ n. pair_answer (Refused n)) c.number.ensures ∙ ap pair_answer (pair_refused c.args.r c.in_default.not-Row)

@@ -5,12 +5,14 @@ use Rattle.position.specs.Rows.{hold_rows}
 use Rattle.position.specs.Run.{hold_line}
 use Rattle.book.specs.Layout.{holds_of}
 use Rattle.run_output.specs.Shown.{hold_room}
+use Rattle.run_rows.specs.Rows.{hold_lines}
 use Rattle.run_rows.proofs.Asked.{holds-within}
-use Rattle.run_rows.proofs.Listed.{Listed, listed_none, listed_room, listed_next}
+use Rattle.run_rows.proofs.Listed.{Listed, listed_none, listed_room, listed_next, listed_last}
 use Rattle.run_rows.proofs.put_holds.Goals as goal
 
 pub returns : goal.returns
-returns c = last c
+unfolding hold_lines
+returns c = listed_last c.loop-r.invariant _ c.add_hold.ensures c.in_default.is _ (holds-within c.requires.booked)
 
 pub loop-r-init : goal.loop-r-init
 loop-r-init c =
@@ -41,4 +43,4 @@ loop-r-preserved c =
     next
 
 pub shape_of-out : goal.shape_of-out
-shape_of-out c = (last c).put.auto
+shape_of-out c = (returns c).put.kept

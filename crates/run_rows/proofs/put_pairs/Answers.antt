@@ -3,13 +3,14 @@ use Prim.Native.Nat.{◌+◌, ◌-◌}
 use native.Mathlib.Omega.{arith}
 use Rattle.position.specs.Run.{pair_line}
 use Rattle.run_output.specs.Shown.{pair_room}
-use Rattle.run_rows.specs.Rows.{pair_rows}
+use Rattle.run_rows.specs.Rows.{pair_rows, pair_lines}
 use Rattle.run_rows.proofs.Asked.{pairs_within}
-use Rattle.run_rows.proofs.Listed.{Listed, listed_none, listed_room, listed_next}
+use Rattle.run_rows.proofs.Listed.{Listed, listed_none, listed_room, listed_next, listed_last}
 use Rattle.run_rows.proofs.put_pairs.Goals as goal
 
 pub returns : goal.returns
-returns c = last c
+unfolding pair_lines
+returns c = listed_last c.loop-r.invariant _ c.add_pair.ensures c.in_default.is _ (pairs_within c.requires.booked)
 
 pub loop-r-init : goal.loop-r-init
 loop-r-init c =
@@ -40,4 +41,4 @@ loop-r-preserved c =
     next
 
 pub shape_of-out : goal.shape_of-out
-shape_of-out c = (last c).put.auto
+shape_of-out c = (returns c).put.kept
