@@ -4,9 +4,10 @@
 use std::path::Path;
 use std::process::Command;
 
-/// What all constants may take together. They take 952 bytes: more than 24 dates of four bytes, ours or as the compiler would keep a `match`,
-/// go past it. Who has to raise it looks first at what came (`objdump -s -j SECTION`).
-const LIMIT: usize = 1_024;
+/// What all constants may take together. They take 1,223 bytes as today's kit compiles them, which keeps the names of the operates and some more
+/// doubles so (1,024 with the kit before): more than 14 dates of four bytes, ours or as the compiler would keep a `match`, go past it. Who has
+/// to raise it looks first at what came (`objdump -s -j SECTION`).
+const LIMIT: usize = 1_280;
 
 /// A section that the host loads and that is no code.
 struct Section {

@@ -140,7 +140,7 @@ fn said(name: &str) -> usize {
     }
 }
 
-/// What is used below the frames: by memcpy and memset of the C library, and by its loader where it binds them at their first call.
+/// What is used below the frames: by memcpy, memmove and memset of the C library, and by its loader where it binds them at their first call.
 const BELOW: usize = 4_096;
 
 /// What every chain of calls uses is within what is said.

@@ -42,7 +42,7 @@ impl Frames {
         assert!(!above.contains(&name), "{name} calls itself");
         let frame = match self.0.get(name) {
             Some(frame) => frame,
-            None if name == "memcpy" || name == "memset" => return 0,
+            None if ["memcpy", "memmove", "memset"].contains(&name) => return 0,
             None => panic!("{name} is not in the archive"),
         };
         let above = [above, &[name]].concat();
