@@ -46,12 +46,12 @@ pub struct BarNumbers {
 
 impl Instant {
     // The wall clock's time at this instant, for an offset in seconds.
+    #[tactic(auto, unfolding(crate::specs::Time::local_time))]
     pub fn local(self, offset: i32) -> LocalTime
         requires { mag self.0 < 2 ^ 62 }
         ensures { result.0 ≡ local_time self.0 offset }
     {
-        let o = offset as i64;
-        LocalTime(self.0 + o * 1000000)
+        LocalTime(self.0 + i64::from(offset) * 1_000_000)
     }
 
     // The whole seconds from this instant to a later one.
@@ -60,7 +60,7 @@ impl Instant {
         requires fact_2 { mag later.0 < 2 ^ 62 }
         ensures { (result ≡ seconds_between self.0 later.0) × (mag result < 2 ^ 53) }
     {
-        (later.0 - self.0) / 1000000
+        (later.0 - self.0) / 1_000_000
     }
 }
 
@@ -73,15 +73,11 @@ impl LocalTime {
     }
 
     // The day, rounded down before 1970 too, where a day opens so many minutes before midnight.
+    #[tactic(auto, unfolding(crate::specs::Time::day_of))]
     pub fn day(self, evening: u16) -> i64
         requires { mag self.0 < 2 ^ 62 }
         ensures { result ≡ day_of evening self.0 }
     {
-        let n = self.0 + evening as i64 * 60000000;
-        if n < 0 {
-            -1 - (-1 - n) / 86400000000
-        } else {
-            n / 86400000000
-        }
+        (self.0 + i64::from(evening) * 60_000_000).div_euclid(86_400_000_000)
     }
 }

@@ -1,28 +1,23 @@
--- Laws of digits, and the invariants of `are_digits` and `digits_behind`. Assumes nothing.
-use Prim.Native.Nat.{ℕ, suc, ◌+◌, ◌*◌, ◌-◌, ◌^◌, ◌≤◌, ◌<◌}
-use native.Mathlib.Nat.{pow-suc, pow-le-pow_right, mul_comm, mul_assoc, mul-le-mul_right, le_trans}
+-- Laws of digits, and the invariant of `digits_behind`. Assumes nothing.
+use Prim.Native.Nat.{ℕ, zero, suc, ◌+◌, ◌*◌, ◌-◌, ◌^◌, ◌≤◌, ◌<◌}
+use native.Mathlib.Nat.{pow-suc, pow-le-pow_right, mul_assoc, mul-le-mul_left, mul-le-mul_right, le_trans}
+use native.Mathlib.Numerals.{add-one}
 use native.Mathlib.Omega.{arith}
 use mathlib.Core.Bool.{Bool, true, false, cond, ◌&&◌, false≢true}
 use mathlib.Core.List.{List, [], ◌∷◌, ◌++◌}
-use mathlib.Core.Option.{Option, none, some}
 use mathlib.Core.Path.{◌≡◌, refl, sym, ◌∙◌, ap}
-use borrow.Author.Tests.{leb-true}
+use Rattle.std.specs.Prelude.{Option, None, Some, EachIndex, IsTrue, ◌↔◌}
+use borrow.Author.Tests.{leb-true, le-leb}
 use lib.Dec.{leb}
-use lib.ListN.{get_or}
+use lib.ListN.{length, get_or, take}
 use lib.Pow.{pow-add}
-use lib.Seq.{slice}
+use lib.Seq.{take-suc, take-length}
 use Rattle.text.specs.Conditions.{every}
-use Rattle.text.specs.Number.{within, digit, digits_behind, natural}
-use Rattle.text.specs.Read.{Part}
-use Rattle.text.proofs.Every.{every_cons}
-use Rattle.text.proofs.Laws.{part_cons, part_nil}
-use Rattle.text_number.proofs.Digits.{Reading}
-use Rattle.bar_line_price.specs.Read.{is_number, are_digits, Behind, Continued}
+use Rattle.text.specs.Number.{digit, digits_behind, natural}
+use Rattle.text.proofs.Every.{every_cons, cons_every}
+use Rattle.bar_line_price.specs.Read.{is_number, is_digit, are_digits, Continued}
 
 -- ---- digits and nothing else
-
-abbrev pub is_digit : ℕ → Bool
-is_digit = within 48 57
 
 pub digit_in : (x : ℕ) → is_digit x ≡ true → (48 ≤ x) × (x ≤ 57)
 digit_in x e = go (leb 48 x) refl e
@@ -33,21 +28,21 @@ digit_in x e = go (leb 48 x) refl e
 
 pub digits_number : (o : Option ℕ) (l : List ℕ) → is_number (digits_behind o l) ≡ (is_number o && every is_digit l)
 unfolding digits_behind every
-digits_number none [] = refl
-digits_number (some v) [] = refl
-digits_number none (x ∷ t) = digits_number none t
-digits_number (some v) (x ∷ t) = digits_number (digit x (some v)) t ∙ go (is_digit x)
+digits_number None [] = refl
+digits_number (Some v) [] = refl
+digits_number None (x ∷ t) = digits_number None t
+digits_number (Some v) (x ∷ t) = digits_number (digit x (Some v)) t ∙ go (is_digit x)
   where
-    go : (d : Bool) → (is_number (cond d (some (v * 10 + (x - 48))) none) && every is_digit t) ≡ cond d (every is_digit t) false
+    go : (d : Bool) → (is_number (cond d (Some (v * 10 + (x - 48))) None) && every is_digit t) ≡ cond d (every is_digit t) false
     go true = refl
     go false = refl
 
 pub natural-digits : (l : List ℕ) → are_digits l ≡ true → every is_digit l ≡ true
 unfolding natural every
 natural-digits [] e = refl
-natural-digits (x ∷ t) e = sym (digits_number (some 0) (x ∷ t)) ∙ e
+natural-digits (x ∷ t) e = sym (digits_number (Some 0) (x ∷ t)) ∙ e
 
-pub natural-behind : (l : List ℕ) → are_digits l ≡ true → natural l ≡ digits_behind (some 0) l
+pub natural-behind : (l : List ℕ) → are_digits l ≡ true → natural l ≡ digits_behind (Some 0) l
 unfolding natural
 natural-behind [] e = absurd (false≢true e)
 natural-behind (x ∷ t) e = refl
@@ -61,34 +56,44 @@ digits_append o (x ∷ a) b = digits_append (digit x o) a b
 pub natural-append : (x y : ℕ) (a b : List ℕ) → are_digits ((x ∷ a) ++ y ∷ b) ≡ (are_digits (x ∷ a) && are_digits (y ∷ b))
 unfolding natural
 natural-append x y a b =
-    ap is_number (digits_append (some 0) (x ∷ a) (y ∷ b)) ∙ digits_number (digits_behind (some 0) (x ∷ a)) (y ∷ b)
-    ∙ ap (λ t. is_number (digits_behind (some 0) (x ∷ a)) && t) (sym (digits_number (some 0) (y ∷ b)))
+    ap is_number (digits_append (Some 0) (x ∷ a) (y ∷ b)) ∙ digits_number (digits_behind (Some 0) (x ∷ a)) (y ∷ b)
+    ∙ ap (λ t. is_number (digits_behind (Some 0) (x ∷ a)) && t) (sym (digits_number (Some 0) (y ∷ b)))
+
+pub every_both : (a b : List ℕ) → every is_digit a ≡ true → every is_digit b ≡ true → every is_digit (a ++ b) ≡ true
+every_both [] b h k = k
+every_both (x ∷ a) b h k = let r = every_cons is_digit x a h in cons_every is_digit x (a ++ b) r.0 (every_both a b r.1 k)
 
 -- ---- `are_digits`
 
--- s in from..to is digits up to i, whatever their value
-pub record Checked (s : List ℕ) (from to i : ℕ) : Type 0 where
-  pub value : ℕ
-  pub reading : Reading s from to value i
+each_every : (s : List ℕ) → EachIndex s (λ k. (48 ≤ get_or s k 0) × (get_or s k 0 ≤ 57)) → every is_digit s ≡ true
+unfolding every
+each_every [] h = refl
+each_every (x ∷ t) h =
+    let x-in = h 0 (omega arith) in
+    cons_every is_digit x t (rw (le-leb 48 x x-in.0, le-leb x 57 x-in.1)) (each_every t (λ k l. h (suc k) (omega arith)))
+
+pub every-each : (s : List ℕ) → every is_digit s ≡ true → EachIndex s (λ k. (48 ≤ get_or s k 0) × (get_or s k 0 ≤ 57))
+every-each [] e k l = absurd (omega arith)
+every-each (x ∷ t) e zero l = digit_in x (every_cons is_digit x t e).0
+every-each (x ∷ t) e (suc k) l = every-each t (every_cons is_digit x t e).1 k (omega arith)
+
+pub no_digits : (s : List ℕ) → length s ≤ 0 → false ≡ are_digits s
+unfolding natural
+no_digits [] h = refl
+no_digits (x ∷ t) h = absurd (omega arith)
+
+-- some bytes, each a digit or not
+pub digits_each : (s : List ℕ) (r : Bool) → 0 < length s → (IsTrue r ↔ EachIndex s (λ k. (48 ≤ get_or s k 0) × (get_or s k 0 ≤ 57))) → r ≡ are_digits s
+unfolding natural
+digits_each [] r h e = absurd (omega arith)
+digits_each (x ∷ t) r h e = go r (every is_digit (x ∷ t)) refl e ∙ sym (digits_number (Some 0) (x ∷ t))
+  where
+    go : (r d : Bool) → every is_digit (x ∷ t) ≡ d → (IsTrue r ↔ EachIndex (x ∷ t) (λ k. (48 ≤ get_or (x ∷ t) k 0) × (get_or (x ∷ t) k 0 ≤ 57))) → r ≡ every is_digit (x ∷ t)
+    go true d k e = sym (each_every (x ∷ t) (e.0 refl))
+    go false true k e = absurd (false≢true (e.1 (every-each (x ∷ t) k)))
+    go false false k e = sym k
 
 -- ---- `digits_behind`
-
--- the digits of s in from..to are read up to i, and behind v they make w
-pub record Continuing (s : List ℕ) (from to v w i : ℕ) : Type 0 where
-  pub left : Part s i to
-  pub digits : every is_digit (slice i to s) ≡ true
-  pub few : (w + 1) * 10 ^ (to - i) ≤ (v + 1) * 10 ^ (to - from)
-  pub most : (v + 1) * 10 ^ (to - from) ≤ 10 ^ 15
-  pub same : digits_behind (some v) (slice from to s) ≡ digits_behind (some w) (slice i to s)
-
-pub continuing_first : {s : List ℕ} {from to v : ℕ} → Behind s from to v → Continuing s from to v v from
-continuing_first {s} {from} {to} b = record {
-  left = b.part;
-  digits = natural-digits (slice from to s) b.digits;
-  few = omega arith;
-  most = b.few;
-  same = refl;
-}
 
 -- k digits behind a number of j
 pub behind-few : (v j k : ℕ) → v < 10 ^ j → j + k ≤ 15 → (v + 1) * 10 ^ k ≤ 10 ^ 15
@@ -96,46 +101,33 @@ behind-few v j k h l =
     let g : v + 1 ≤ 10 ^ j = omega arith in
     le_trans (mul-le-mul_right (10 ^ k) g) (rw pow-add at (pow-le-pow_right {n = 10} (omega arith) {i = j + k} {j = 15} l))
 
--- one digit more takes one place
-more : (w d m : ℕ) → d ≤ 9 → (w * 10 + d + 1) * 10 ^ m ≤ (w + 1) * 10 ^ suc m
-more w d m h =
-    let g : w * 10 + d + 1 ≤ (w + 1) * 10 = omega arith in
-    rw (pow-suc, mul_comm (10 ^ m) 10, ← mul_assoc) (mul-le-mul_right (10 ^ m) g)
+-- the first i digits of s behind v make w
+pub record Continuing (s : List ℕ) (v w i : ℕ) : Type 0 where
+  pub value : Some w ≡ digits_behind (Some v) (take i s)
+  pub few : w < (v + 1) * 10 ^ i
 
-module _ {s : List ℕ} {from to v w i : ℕ} (c : Continuing s from to v w i) where
-  pub continuing_most : w < 10 ^ 15
-  continuing_most = omega (arith, mul-le-mul_right (w + 1) (pow-le-pow_right {n = 10} (omega arith) {i = 0} {j = to - i} (omega arith)))
+pub continuing_first : (s : List ℕ) (v : ℕ) → Continuing s v v 0
+unfolding digits_behind
+continuing_first s v = record { value = refl; few = omega arith }
 
-  pub continuing_last : to ≤ i → Continued s from to v w
+module _ {s : List ℕ} {v w i : ℕ} (c : Continuing s v w i) where
+  pub continuing_most : (v + 1) * 10 ^ length s ≤ 10 ^ 15 → i ≤ length s → w < 10 ^ 15
+  continuing_most m h = omega (arith, c.few, mul-le-mul_left (v + 1) (pow-le-pow_right {n = 10} (omega arith) {i = i} {j = length s} h))
+
+  pub continuing_more : every is_digit s ≡ true → i < length s → Continuing s v (w * 10 + (get_or s i 0 - 48)) (i + 1)
   unfolding digits_behind
-  continuing_last h =
-      let z : to - i ≡ 0 = omega arith in
-      record { value = sym (c.same ∙ rw (part_nil i to s h)); few = omega (arith, rw z at c.few); most = continuing_most }
+  continuing_more d h =
+      let x : ℕ = get_or s i 0 in
+      let x-in = every-each s d i h in
+      let up : w * 10 + (x - 48) < (w + 1) * 10 = omega arith in
+      let all : (w + 1) * 10 ≤ (v + 1) * 10 ^ i * 10 = mul-le-mul_right 10 (omega (arith, c.few)) in
+      let taken : take (i + 1) s ≡ take i s ++ (x ∷ []) = rw add-one (take-suc s i 0 h) in
+      let place : 10 ^ (i + 1) ≡ 10 ^ i * 10 = rw add-one (pow-suc 10 i) in
+      let next : Some (w * 10 + (x - 48)) ≡ digits_behind (Some w) (x ∷ []) = rw (le-leb 48 x x-in.0, le-leb x 57 x-in.1) in
+      record {
+        value = next ∙ ap (λ o. digits_behind o (x ∷ [])) c.value ∙ sym (digits_append (Some v) (take i s) (x ∷ [])) ∙ ap (digits_behind (Some v)) (sym taken);
+        few = rw (place, ← mul_assoc) (omega (arith, up, all));
+      }
 
-  module _ (h : i < to) where
-    first : slice i to s ≡ get_or s i 0 ∷ slice (i + 1) to s
-    first = part_cons i to s h c.left.within
-
-    next : (is_digit (get_or s i 0) ≡ true) × (every is_digit (slice (i + 1) to s) ≡ true)
-    next = every_cons is_digit (get_or s i 0) (slice (i + 1) to s) (rw first at c.digits)
-
-    pub continuing_digit : (48 ≤ get_or s i 0) × (get_or s i 0 ≤ 57)
-    continuing_digit = digit_in (get_or s i 0) next.0
-
-    pub continuing_more : Continuing s from to v (w * 10 + (get_or s i 0 - 48)) (i + 1)
-    unfolding digits_behind
-    continuing_more =
-        let m : to - i ≡ suc (to - (i + 1)) = omega arith in
-        record {
-          left = omega arith;
-          digits = next.1;
-          few = le_trans (more w (get_or s i 0 - 48) (to - (i + 1)) (omega (arith, continuing_digit))) (rw m at c.few);
-          most = c.most;
-          same = c.same ∙ rw (first, digits_behind, next.0);
-        }
-
--- the digits of one part, and of another behind them
-pub continued_both : {s : List ℕ} {from to from' to' u v w : ℕ} → Continued s from to u v → Continued s from' to' v w
-    → some w ≡ digits_behind (some u) (slice from to s ++ slice from' to' s)
-continued_both {s} {from} {to} {from'} {to'} {u} a b =
-    b.value ∙ ap (λ o. digits_behind o (slice from' to' s)) a.value ∙ sym (digits_append (some u) (slice from to s) (slice from' to' s))
+pub continuing_last : {s : List ℕ} {v w : ℕ} → Continuing s v w (length s) → Continued s v w
+continuing_last {s} {v} c = record { value = c.value ∙ ap (digits_behind (Some v)) (take-length s); few = c.few }

@@ -1,15 +1,16 @@
 -- Laws of a price's form: its parts between points, and what it says by its digits. Assumes nothing.
-use Prim.Native.Nat.{ℕ, ◌+◌, ◌-◌, ◌^◌, ◌≤◌, ◌<◌}
+use Prim.Native.Nat.{ℕ, ◌+◌, ◌^◌, ◌≤◌, ◌<◌}
+use native.Mathlib.Decide.{dec_le}
 use native.Mathlib.Omega.{arith}
 use mathlib.Core.Bool.{Bool, true, false, cond, ◌&&◌, false≢true}
 use mathlib.Core.List.{List, [], ◌∷◌, ◌++◌, append-nil}
 use mathlib.Core.Logic.{◌≢◌, ◌⊎◌, inl, inr, ⊎_elim}
-use mathlib.Core.Option.{Option, none, some}
+use Rattle.std.specs.Prelude.{Option, None, Some}
 use mathlib.Core.Path.{◌≡◌, refl, sym, ◌∙◌, ap, ap₂}
 use borrow.Author.Tests.{le-leb, lt-leb, ne_eqb}
-use lib.Dec.{eqb}
-use lib.ListN.{length, length-append}
-use lib.Seq.{slice, length-slice}
+use lib.Dec.{eqb, leb}
+use lib.ListN.{length}
+use lib.Seq.{slice}
 use Rattle.text.specs.Answer.{Answer, Refused, Got, ◌>>=◌, given}
 use Rattle.text.specs.Conditions.{every, any_of}
 use Rattle.text.specs.Number.{digits_behind, natural}
@@ -21,8 +22,8 @@ use Rattle.text.proofs.Laws.{part_end}
 use Rattle.text.proofs.Parts.{split_some, split-next, split-last, onto-count}
 use Rattle.double.specs.Double.{whole, ◌÷◌}
 use Rattle.bar_line.specs.Line.{Decimal, decimal_in, double_of, price_of}
-use Rattle.bar_line_price.specs.Read.{is_number, are_digits, whole_part, fraction, Pointed}
-use Rattle.bar_line_price.proofs.Digits.{is_digit, digit_in, natural-digits, natural-behind, natural-append}
+use Rattle.bar_line_price.specs.Read.{is_number, is_digit, are_digits, priced}
+use Rattle.bar_line_price.proofs.Digits.{digit_in, digits_number, natural-digits, natural-behind, natural-append}
 
 -- ---- the parts between points
 
@@ -67,8 +68,8 @@ by_two s x y a q h = rw h (ap (λ p. counted (length (p ++ y ∷ q)) (length (y 
 -- ---- what departs from the form
 
 none-counted : (k b : ℕ) (o : Option ℕ) → is_number o ≡ false → Refused 16 ≡ counted k b o
-none-counted k b none e = refl
-none-counted k b (some v) e = absurd (false≢true (sym e))
+none-counted k b None e = refl
+none-counted k b (Some v) e = absurd (false≢true (sym e))
 
 -- a part that is not digits alone
 bad_two : (s a q : List ℕ) → split point s ≡ a ∷ q ∷ [] → (are_digits a && are_digits q) ≡ false → Refused 16 ≡ decimal_in s
@@ -88,94 +89,86 @@ bad_more s a ps h l =
 
 -- ---- what has the form
 
--- s writes k digits, which are l, and b of them stand behind the point
-pub record Formed (s l : List ℕ) (k b : ℕ) : Type 0 where
-  pub value : ℕ
-  pub writes : digits_behind (some 0) l ≡ some value
-  pub reads : decimal_in s ≡ Got (record { value = value; digits = k; behind = b })
+abbrev whole_part : List ℕ → ℕ → List ℕ
+whole_part s at = slice 0 at s
 
-formed : (s l : List ℕ) (b : ℕ) → decimal_in s ≡ counted (length l) b (natural l) → are_digits l ≡ true → Formed s l (length l) b
-formed s l b h e = go (natural l) (natural-behind l e) h e
+abbrev fraction : List ℕ → ℕ → List ℕ
+fraction s at = slice (at + 1) (length s) s
+
+as_priced : (s l : List ℕ) (b : ℕ) → decimal_in s ≡ counted (length l) b (natural l) → are_digits l ≡ true → priced l b ≡ price_of s
+unfolding price_of
+as_priced s l b h e = go (digits_behind (Some 0) l) ∙ ap (λ o. counted (length l) b o >>= double_of) (sym (natural-behind l e)) ∙ ap (λ a. a >>= double_of) (sym h)
   where
-    go : (o : Option ℕ) → o ≡ digits_behind (some 0) l → decimal_in s ≡ counted (length l) b o → is_number o ≡ true → Formed s l (length l) b
-    go none n h e = absurd (false≢true e)
-    go (some v) n h e = record { value = v; writes = sym n; reads = h }
+    go : (o : Option ℕ) → (given 16 o >>= λ n. double_of (record { value = n; digits = length l; behind = b })) ≡ (counted (length l) b o >>= double_of)
+    go None = refl
+    go (Some v) = refl
 
-formed_two : (s a q : List ℕ) → split point s ≡ a ∷ q ∷ [] → are_digits a ≡ true → are_digits q ≡ true
-    → Formed s (a ++ q) (length (a ++ q)) (length q)
+priced_two : (s a q : List ℕ) → split point s ≡ a ∷ q ∷ [] → are_digits a ≡ true → are_digits q ≡ true → priced (a ++ q) (length q) ≡ price_of s
 unfolding natural
-formed_two s [] q h d e = absurd (false≢true d)
-formed_two s (x ∷ a) [] h d e = absurd (false≢true e)
-formed_two s (x ∷ a) (y ∷ q) h d e =
-    formed s ((x ∷ a) ++ y ∷ q) (length (y ∷ q)) (by_two s x y a q h) (natural-append x y a q ∙ ap₂ ◌&&◌ d e)
+priced_two s [] q h d e = absurd (false≢true d)
+priced_two s (x ∷ a) [] h d e = absurd (false≢true e)
+priced_two s (x ∷ a) (y ∷ q) h d e =
+    as_priced s ((x ∷ a) ++ y ∷ q) (length (y ∷ q)) (by_two s x y a q h) (natural-append x y a q ∙ ap₂ ◌&&◌ d e)
 
-module _ {s l : List ℕ} {k b : ℕ} (f : Formed s l k b) where
-  pub formed_long : 15 < k → Refused 17 ≡ price_of s
-  unfolding price_of double_of
-  formed_long h = rw (f.reads, lt-leb k 15 h)
+-- ---- `price`
 
-  module _ (h : k ≤ 15) where
-    pub formed_fine : 6 < b → Refused 17 ≡ price_of s
-    unfolding price_of double_of
-    formed_fine g = rw (f.reads, le-leb k 15 h, lt-leb b 6 g)
+pub too_many : (k b : ℕ) → (15 < k) ⊎ ((k ≤ 15) × (6 < b)) → (leb k 15 && leb b 6) ≡ false
+too_many k b (inl h) = rw (lt-leb k 15 h)
+too_many k b (inr h) = rw (le-leb k 15 h.0, lt-leb b 6 h.1)
 
-    pub formed_is : b ≤ 6 → (v : ℕ) → some v ≡ digits_behind (some 0) l → Got (whole v ÷ whole (10 ^ b)) ≡ price_of s
-    unfolding price_of double_of
-    formed_is g v e =
-        let z : v ≡ f.value = cc in
-        rw (f.reads, le-leb k 15 h, le-leb b 6 g, z)
+-- digits with too many of them, in all or behind the point
+pub priced-long : (l : List ℕ) (b : ℕ) → every is_digit l ≡ true → (leb (length l) 15 && leb b 6) ≡ false → Refused 17 ≡ priced l b
+unfolding double_of
+priced-long l b d h = go (digits_behind (Some 0) l) (digits_number (Some 0) l ∙ d)
+  where
+    go : (o : Option ℕ) → is_number o ≡ true → Refused 17 ≡ (given 16 o >>= λ n. double_of (record { value = n; digits = length l; behind = b }))
+    go None e = absurd (false≢true e)
+    go (Some v) e = rw h
 
--- ---- `plain`
-
-abbrev pub PlainForm : List ℕ → Type 0
-PlainForm s = Formed s (slice 0 (length s) s) (length s) 0
-
-module _ (s : List ℕ) (h : split point s ≡ s ∷ []) where
-  pub plain_bad : are_digits (slice 0 (length s) s) ≡ false → Refused 16 ≡ price_of s
-  unfolding price_of
-  plain_bad e = refused_then double_of (none-counted (length s) 0 (natural s) (rw (part_end 0 s) at e) ∙ sym (by_one s h))
-
-  pub plain_formed : are_digits (slice 0 (length s) s) ≡ true → PlainForm s
-  plain_formed e = rw (part_end 0 s) (formed s s 0 (by_one s h) (rw (part_end 0 s) at e))
-
--- ---- `pointed`
-
-abbrev pub PointedForm : List ℕ → ℕ → Type 0
-PointedForm s at = Formed s (whole_part s at ++ fraction s at) (length s - 1) (length s - 1 - at)
-
-module _ {s : List ℕ} {at : ℕ} (p : Pointed s at) where
-  bad_part : (are_digits (whole_part s at) && are_digits (fraction s at)) ≡ false → Refused 16 ≡ price_of s
-  unfolding price_of
-  bad_part e =
-      refused_then double_of
-      (⊎_elim
-      (λ h. bad_two s (whole_part s at) (fraction s at) (p.parts ∙ ap (λ ps. whole_part s at ∷ ps) h) e)
-      (λ h. bad_more s (whole_part s at) (split point (fraction s at)) p.parts h)
-      (one_or_more (fraction s at)))
-
-  pub pointed_bad : are_digits (whole_part s at) ≡ false → Refused 16 ≡ price_of s
-  pointed_bad e = bad_part (rw e)
-
-  module _ (d : are_digits (whole_part s at) ≡ true) where
-    pub pointed_bad_behind : are_digits (fraction s at) ≡ false → Refused 16 ≡ price_of s
-    pointed_bad_behind e = bad_part (rw (d, e))
-
-    pub pointed_formed : are_digits (fraction s at) ≡ true → PointedForm s at
-    pointed_formed e =
-        let h = digits-one (fraction s at) (natural-digits (fraction s at) e) in
-        let b : length (fraction s at) ≡ length s - 1 - at = length-slice (at + 1) (length s) s (omega arith) ∙ omega arith in
-        let k : length (whole_part s at ++ fraction s at) ≡ length s - 1 =
-        omega (arith, length-append (whole_part s at) (fraction s at), length-slice 0 at s (omega arith)) in
-        rw (← b, ← k) (formed_two s (whole_part s at) (fraction s at) (p.parts ∙ ap (λ ps. whole_part s at ∷ ps) h) d e)
+pub priced-is : (l : List ℕ) (b : ℕ) {v : ℕ} → length l ≤ 15 → b ≤ 6 → Some v ≡ digits_behind (Some 0) l → Got (whole v ÷ whole (10 ^ b)) ≡ priced l b
+unfolding double_of
+priced-is l b h g e = rw (← e, le-leb (length l) 15 h, le-leb b 6 g)
 
 -- ---- `read_price`
 
 module _ {s : List ℕ} {at : ℕ} (f : FirstAt s 0 (length s) point at) where
-  part : Part s 0 (length s)
-  part = record { order = omega arith; within = omega arith }
+  all : Part s 0 (length s)
+  all = record { order = omega arith; within = omega arith }
 
-  pub is_plain : at ≡ length s → split point s ≡ s ∷ []
-  is_plain e = rw (part_end 0 s) at (split-last part f e)
+  one_part : at ≡ length s → split point s ≡ s ∷ []
+  one_part e = rw (part_end 0 s) at (split-last all f e)
 
-  pub is_pointed : at ≢ length s → Pointed s at
-  is_pointed n = record { within = omega arith; parts = ap (split point) (sym (part_end 0 s)) ∙ split-next part f (omega arith) }
+  more_parts : at ≢ length s → split point s ≡ whole_part s at ∷ split point (fraction s at)
+  more_parts n = ap (split point) (sym (part_end 0 s)) ∙ split-next all f (omega (arith, f.high))
+
+  bad_part : at ≢ length s → (are_digits (whole_part s at) && are_digits (fraction s at)) ≡ false → Refused 16 ≡ price_of s
+  unfolding price_of
+  bad_part n e =
+      refused_then double_of
+      (⊎_elim
+      (λ h. bad_two s (whole_part s at) (fraction s at) (more_parts n ∙ ap (λ ps. whole_part s at ∷ ps) h) e)
+      (λ h. bad_more s (whole_part s at) (split point (fraction s at)) (more_parts n) h)
+      (one_or_more (fraction s at)))
+
+  bad_one : at ≡ length s → are_digits (whole_part s at) ≡ false → Refused 16 ≡ price_of s
+  unfolding price_of
+  bad_one e h = refused_then double_of (none-counted (length s) 0 (natural s) (rw (e, part_end 0 s) at h) ∙ sym (by_one s (one_part e)))
+
+  pub bad_whole : are_digits (whole_part s at) ≡ false → Refused 16 ≡ price_of s
+  bad_whole h = elim (dec_le (length s) at) [ yes e ↦ bad_one (omega (arith, f.high)) h | no n ↦ bad_part (omega arith) (rw h) ]
+
+  pub bad_behind : at ≢ length s → are_digits (fraction s at) ≡ false → Refused 16 ≡ price_of s
+  bad_behind n h = bad_part n (go (are_digits (whole_part s at)) (are_digits (fraction s at)) h)
+    where
+      go : (a b : Bool) → b ≡ false → (a && b) ≡ false
+      go true b e = e
+      go false b e = refl
+
+  module _ (d : are_digits (whole_part s at) ≡ true) where
+    pub plain-is : at ≡ length s → priced (whole_part s at ++ []) 0 ≡ price_of s
+    plain-is e = rw (e, part_end 0 s, append-nil) (as_priced s s 0 (by_one s (one_part e)) (rw (e, part_end 0 s) at d))
+
+    pub pointed-is : at ≢ length s → are_digits (fraction s at) ≡ true → priced (whole_part s at ++ fraction s at) (length (fraction s at)) ≡ price_of s
+    pointed-is n e =
+        priced_two s (whole_part s at) (fraction s at)
+        (more_parts n ∙ ap (λ ps. whole_part s at ∷ ps) (digits-one (fraction s at) (natural-digits (fraction s at) e))) d e

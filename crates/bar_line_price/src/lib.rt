@@ -1,20 +1,17 @@
 // The price of a line of the exchange's comma file, read: digits, perhaps a point and more digits.
 #![tactic(auto)]
 
-ghost use Rattle.std.specs.Prelude.{◌≡◌, [], ◌∷◌, ◌^◌, ◌≤◌};
-ghost use Rattle.std.proofs.Math.Seq.{slice};
-ghost use Rattle.text.specs.Read.{Part};
-ghost use Rattle.text.specs.Text.{point, split};
+ghost use Rattle.std.specs.Prelude.{◌≡◌, true, ◌+◌, ◌*◌, ◌^◌, ◌≤◌, ◌++◌, length};
+ghost use Rattle.text.specs.Conditions.{every};
 ghost use Rattle.double.specs.Double.{whole, ◌÷◌};
 ghost use Rattle.bar_line.specs.Line.{price_of};
-ghost use Rattle.bar_line_price.specs.Read.{price_read_of, are_digits, Behind, Continued, Pointed};
+ghost use Rattle.bar_line_price.specs.Read.{price_read_of, is_digit, are_digits, Continued, priced};
 
 use text::find;
 
-// A price's double, or that it has too many digits, or departs from the form.
+// Why a text is no price: too many digits, or another form.
 #[derive(Clone, Copy)]
-pub enum PriceRead {
-    Is(f64),
+pub enum PriceError {
     Long,
     Bad,
 }
@@ -24,38 +21,22 @@ const DIGITS_LIMIT: usize = 15;
 
 const BEHIND_LIMIT: usize = 6;
 
-// Whether s in from..to is one or more digits, however many.
-fn are_digits(s: &[u8], from: usize, to: usize) -> bool
-    requires { Part s.now from to }
-    ensures { result ≡ are_digits (slice from to s.now) }
+// Whether s is one or more digits, however many.
+fn are_digits(s: &[u8]) -> bool
+    ensures { result ≡ are_digits s.now }
 {
-    if from == to {
-        return false;
-    }
-    let mut i = from;
-    while i < to {
-        let d = s[i];
-        if d < 48 {
-            return false;
-        }
-        if 57 < d {
-            return false;
-        }
-        i += 1;
-    }
-    true
+    !s.is_empty() && s.iter().all(|b| b.is_ascii_digit())
 }
 
-// The value v with the digits of s in from..to behind it.
-fn digits_behind(s: &[u8], from: usize, to: usize, v: u64) -> u64
-    requires { Behind s.now from to v }
-    ensures { Continued s.now from to v result }
+// The value v with the digits of s behind it.
+fn digits_behind(s: &[u8], v: u64) -> u64
+    requires digits { every is_digit s.now ≡ true }
+    requires few { (v + 1) * 10 ^ length s.now ≤ 10 ^ 15 }
+    ensures { Continued s.now v result }
 {
     let mut w = v;
-    let mut i = from;
-    while i < to {
-        w = w * 10 + (s[i] - 48) as u64;
-        i += 1;
+    for b in s {
+        w = w * 10 + u64::from(*b - b'0');
     }
     w
 }
@@ -84,54 +65,35 @@ fn scaled(v: u64, k: usize) -> f64
     v as f64 / power(k) as f64
 }
 
-// The price that s writes without a point.
-fn plain(s: &[u8]) -> PriceRead
-    requires { split point s.now ≡ s.now ∷ [] }
-    ensures { price_read_of result ≡ price_of s.now }
+// The price of the digits `whole` before the point and of those behind it.
+fn price(whole: &[u8], behind: &[u8]) -> Result<f64, PriceError>
+    requires whole_digits { every is_digit whole.now ≡ true }
+    requires behind_digits { every is_digit behind.now ≡ true }
+    ensures { price_read_of result ≡ priced (whole.now ++ behind.now) (length behind.now) }
 {
-    let n = s.len();
-    if !are_digits(s, 0, n) {
-        return PriceRead::Bad;
+    if DIGITS_LIMIT < whole.len() + behind.len() || BEHIND_LIMIT < behind.len() {
+        return Err(PriceError::Long);
     }
-    if DIGITS_LIMIT < n {
-        return PriceRead::Long;
-    }
-    PriceRead::Is(scaled(digits_behind(s, 0, n, 0), 0))
-}
-
-// The price that s writes with its first point at `at`.
-fn pointed(s: &[u8], at: usize) -> PriceRead
-    requires { Pointed s.now at }
-    ensures { price_read_of result ≡ price_of s.now }
-{
-    let n = s.len();
-    if !are_digits(s, 0, at) {
-        return PriceRead::Bad;
-    }
-    if !are_digits(s, at + 1, n) {
-        return PriceRead::Bad;
-    }
-    let digits = n - 1;
-    let behind = digits - at;
-    if DIGITS_LIMIT < digits {
-        return PriceRead::Long;
-    }
-    if BEHIND_LIMIT < behind {
-        return PriceRead::Long;
-    }
-    let v = digits_behind(s, 0, at, 0);
-    let w = digits_behind(s, at + 1, n, v);
-    PriceRead::Is(scaled(w, behind))
+    let v = digits_behind(behind, digits_behind(whole, 0));
+    Ok(scaled(v, behind.len()))
 }
 
 // The price that s writes.
-pub fn read_price(s: &[u8]) -> PriceRead
+pub fn read_price(s: &[u8]) -> Result<f64, PriceError>
     ensures { price_read_of result ≡ price_of s.now }
 {
     let n = s.len();
-    let at = find(s, 0, n, b'.');
-    if at == n {
-        return plain(s);
+    let point = find(s, 0, n, b'.');
+    let whole = &s[..point];
+    if !are_digits(whole) {
+        return Err(PriceError::Bad);
     }
-    pointed(s, at)
+    if point == n {
+        return price(whole, &[]);
+    }
+    let behind = &s[point + 1..];
+    if !are_digits(behind) {
+        return Err(PriceError::Bad);
+    }
+    price(whole, behind)
 }

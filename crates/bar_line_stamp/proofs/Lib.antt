@@ -1,3 +1,2 @@
 -- The laws of a line's time.
-mod Steps
 mod Times

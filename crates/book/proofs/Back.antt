@@ -1,4 +1,5 @@
 -- What is written into a book is read back: a hold, a record, the header. Assumes nothing.
+use Rattle.std.specs.Prelude.{Option, None, Some, Float}
 use Prim.Native.Nat.{ℕ, ◌^◌, ◌<◌}
 use native.Mathlib.Omega.{arith}
 use mathlib.Core.Bool.{Bool, true, false}
@@ -6,23 +7,19 @@ use mathlib.Core.List.{List, ◌++◌}
 use mathlib.Core.Path.{◌≡◌, refl, sym, ap}
 use lib.Dec.{eqb}
 use borrow.Author.Tests.{ne_eqb}
+use Rattle.double.specs.declared.Yield.{Yield}
+use Rattle.double.specs.declared.Yield.TheVariants.{Absent, Bp}
 use Rattle.le.specs.Le.{part, le_bytes, le_nat}
 use Rattle.le.specs.Field.{u32, i32, i64, f64, put16, put32, put_i32, put_i64, put_f64}
 use Rattle.le.proofs.Laws.{le_nat-le_bytes}
 use Rattle.le.proofs.Fields.{integer_back, double_back}
-use Rattle.double.specs.declared.Yield.{Yield}
-use Rattle.double.specs.declared.Yield.TheVariants.{Absent, Bp}
 use Rattle.bar.specs.declared.Time.{Time}
 use Rattle.bar.specs.declared.Bar.{Bar}
 use Rattle.position.specs.State.{pos_code}
 use Rattle.position.specs.Step.{held_lots}
 use Rattle.position.specs.declared.Pos.{Pos}
 use Rattle.position.specs.declared.Pos.TheVariants.{Short, Flat, Long}
-use Rattle.position.specs.declared.Open.{Open}
-use Rattle.position.specs.declared.Open.TheVariants as Open
 use Rattle.position.specs.declared.LastEvent.{LastEvent}
-use Rattle.position.specs.declared.Reference.{Reference}
-use Rattle.position.specs.declared.Reference.TheVariants as Reference
 use Rattle.position.specs.declared.Head.{Head}
 use Rattle.position.specs.declared.Description.{Description}
 use Rattle.position.specs.declared.Description.TheVariants.{Event, Stop, Timeout}
@@ -116,19 +113,19 @@ record_back r h =
 
 -- ---- the header
 
-open_is : (o : Open) → OpenIn o → open_at (open_flag o) (again (open_time o)) ≡ o
-open_is Open.Never h = refl
-open_is (Open.At t) h = ap Open.At (time-is t h)
+open_is : (o : Option Time) → OpenIn o → open_at (open_flag o) (again (open_time o)) ≡ o
+open_is None h = refl
+open_is (Some t) h = ap Some (time-is t h)
 
 -- the reference in the bytes from 68 on, and its operate
 reference_in : List ℕ → ℕ → LastEvent
 reference_in l operate = record { bar = record { id = u32 l 0; time = time_at l 4 12; price = f64 l 20 }; operate = operate; event = u32 l 16 }
 
-reference-is : (r : Reference) (rest : List ℕ) → ReferenceIn r → reference_at (reference_flag r) (reference_in (reference_bytes r ++ rest) (reference_operate r)) ≡ r
+reference-is : (r : Option LastEvent) (rest : List ℕ) → ReferenceIn r → reference_at (reference_flag r) (reference_in (reference_bytes r ++ rest) (reference_operate r)) ≡ r
 unfolding reference_in part le_bytes again bar_again
-reference-is Reference.Never rest h = refl
-reference-is (Reference.At r) rest h =
-    λ i. Reference.At (record { bar = bar-is r.bar h.bar i; operate = r.operate; event = number_is r.event h.event i })
+reference-is None rest h = refl
+reference-is (Some r) rest h =
+    λ i. Some (record { bar = bar-is r.bar h.bar i; operate = r.operate; event = number_is r.event h.event i })
 
 pub head_back : (c hs rs : ℕ) (h : Head) (rest : List ℕ) → HeadIn h → head_of (head_bytes c hs rs h ++ rest) ≡ h
 unfolding head_of head_bytes part le_bytes again reference_in

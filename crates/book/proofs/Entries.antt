@@ -1,4 +1,5 @@
 -- A sound hold and a sound record pass their checks in their bytes, and lists of them rise. Assumes nothing.
+use Rattle.std.specs.Prelude.{Option, None, Some}
 use Prim.Native.Nat.{ℕ, ◌≤◌}
 use mathlib.Core.Bool.{true, not, and-eq-true_iff}
 use mathlib.Core.List.{List, [], ◌∷◌, map}
@@ -10,14 +11,14 @@ use lib.Ieee.{Float, is_nan}
 use lib.Ieee.Scale.{finite}
 use lib.ListN.{length}
 use borrow.Author.Tests.{lt-ltb, le-leb}
+use Rattle.double.specs.declared.Yield.{Yield}
+use Rattle.double.specs.declared.Yield.TheVariants.{Absent, Bp}
 use Rattle.le.specs.Le.{part, le_bytes, le_nat}
 use Rattle.le.specs.Field.{u16, i64, put16}
 use Rattle.le.proofs.Laws.{le_nat-le_bytes}
 use Rattle.le.proofs.Fields.{double_back}
 use Rattle.text.specs.Text.{same}
 use Rattle.text.proofs.Conditions.{none_left, ◌also◌, sure}
-use Rattle.double.specs.declared.Yield.{Yield}
-use Rattle.double.specs.declared.Yield.TheVariants.{Absent, Bp}
 use Rattle.bar.specs.Bar.{last_id, time_ok}
 use Rattle.bar.specs.declared.Time.{Time}
 use Rattle.sheet.specs.Sheet.{Sheet, lots_limit, lots_ok}

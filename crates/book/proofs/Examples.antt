@@ -1,4 +1,5 @@
 -- Worked examples of a book's bytes and of its header check, computed from the definitions. Assumes nothing.
+use Rattle.std.specs.Prelude.{None, Some}
 use Prim.Native.Nat.{ℕ}
 use mathlib.Core.Bool.{true, false}
 use mathlib.Core.List.{List, [], ◌∷◌}
@@ -6,13 +7,11 @@ use mathlib.Core.Path.{◌≡◌, refl}
 use lib.IntN.{ℤ, pos, negsuc}
 use lib.Ieee.{binary64, of_bits}
 use lib.ListN.{replicate}
-use Rattle.le.specs.Le.{part, patch}
 use Rattle.double.specs.declared.Yield.TheVariants.{Absent, Bp}
+use Rattle.le.specs.Le.{part, patch}
 use Rattle.operate.specs.Operate.{LO, LE}
 use Rattle.bar.specs.declared.Time.{Time}
 use Rattle.position.specs.declared.Pos.TheVariants.{Flat, Long}
-use Rattle.position.specs.declared.Open.TheVariants as Open
-use Rattle.position.specs.declared.Reference.TheVariants as Reference
 use Rattle.position.specs.declared.Head.{Head}
 use Rattle.position.specs.declared.Description.TheVariants.{Event, Stop}
 use Rattle.position.specs.declared.Hold.{Hold}
@@ -94,9 +93,9 @@ head =
       pos = Long;
       changed = true;
       end = end;
-      long = Open.At (at (pos 770) (pos 3_600));
-      short = Open.At (at (pos 1_284) (negsuc 0));
-      reference = Reference.At (record { bar = record { id = 9; time = at (pos 1_798) (pos 28_800); price = of_bits binary64 0x4059600000000000 }; operate = LO; event = 31 });
+      long = Some (at (pos 770) (pos 3_600));
+      short = Some (at (pos 1_284) (negsuc 0));
+      reference = Some (record { bar = record { id = 9; time = at (pos 1_798) (pos 28_800); price = of_bits binary64 0x4059600000000000 }; operate = LO; event = 31 });
     }
 
 head_bytes_lem : head_bytes 2 1 1 head

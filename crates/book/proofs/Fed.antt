@@ -3,7 +3,7 @@ use Prim.Native.Nat.{ℕ, ◌+◌, ◌-◌, ◌*◌, ◌≤◌, ◌<◌}
 use native.Mathlib.Omega.{arith}
 use mathlib.Core.Bool.{Bool, true, false, cond, ◌&&◌}
 use mathlib.Core.List.{List}
-use mathlib.Core.Option.{some}
+use Rattle.std.specs.Prelude.{Some}
 use mathlib.Core.Path.{◌≡◌, refl, ap, ◌∙◌, subst}
 use lib.Dec.{eqb}
 use lib.ListN.{length}
@@ -113,7 +113,7 @@ pub record Took (b : List ℕ) (i : Input) (a : Accepted (List ℕ)) : Type 0 wh
   pub read : fed_of i ≡ Got got
   pub after : fed c got.bar g b ≡ a.after
 
-sized_some : (t b : List ℕ) (c : ℕ) → sized t b ≡ Got c → capacity b ≡ some c
+sized_some : (t b : List ℕ) (c : ℕ) → sized t b ≡ Got c → capacity b ≡ Some c
 sized_some t b c e = given_got 8 (capacity b) c (must_got 8 (eqb (length t) table_length) (λ _. given 8 (capacity b)) c e).1
 
 both : (t u : Bool) → (t && u) ≡ true → t ≡ true

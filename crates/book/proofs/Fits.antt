@@ -1,5 +1,6 @@
 -- What the bytes of a book can hold: instants of 64 bits, offsets and ids of 32, a record's event index and lots of 16, and doubles. Assumes
 -- nothing.
+use Rattle.std.specs.Prelude.{Option, None, Some, Float}
 use Prim.Native.Nat.{ℕ, ◌^◌, ◌<◌}
 use mathlib.Core.Path.{◌≡◌}
 use lib.Dec.{T}
@@ -11,11 +12,7 @@ use Rattle.bar.specs.declared.Time.{Time}
 use Rattle.bar.specs.declared.Bar.{Bar}
 use Rattle.position.specs.declared.Pos.{Pos}
 use Rattle.position.specs.declared.Pos.TheVariants.{Short, Flat, Long}
-use Rattle.position.specs.declared.Open.{Open}
-use Rattle.position.specs.declared.Open.TheVariants as Open
 use Rattle.position.specs.declared.LastEvent.{LastEvent}
-use Rattle.position.specs.declared.Reference.{Reference}
-use Rattle.position.specs.declared.Reference.TheVariants as Reference
 use Rattle.position.specs.declared.Head.{Head}
 use Rattle.position.specs.declared.Description.{Description}
 use Rattle.position.specs.declared.Description.TheVariants.{Event, Stop, Timeout}
@@ -60,17 +57,17 @@ pub record RecordIn (r : Record) : Type 0 where
   pub description : DescriptionIn r.description
   pub lots : LotsIn r.lots
 
-abbrev pub OpenIn : Open → Type 0
-OpenIn Open.Never = Unit {0}
-OpenIn (Open.At t) = TimeIn t
+abbrev pub OpenIn : Option Time → Type 0
+OpenIn None = Unit {0}
+OpenIn (Some t) = TimeIn t
 
 pub record LastIn (r : LastEvent) : Type 0 where
   pub bar : BarIn r.bar
   pub event : r.event < 2 ^ 32
 
-abbrev pub ReferenceIn : Reference → Type 0
-ReferenceIn Reference.Never = Unit {0}
-ReferenceIn (Reference.At r) = LastIn r
+abbrev pub ReferenceIn : Option LastEvent → Type 0
+ReferenceIn None = Unit {0}
+ReferenceIn (Some r) = LastIn r
 
 pub record HeadIn (h : Head) : Type 0 where
   pub end : TimeIn h.end

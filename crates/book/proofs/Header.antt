@@ -1,4 +1,5 @@
 -- The header of a sound state passes the header check, whatever is behind it, where the last hold's slot does. Assumes nothing.
+use Rattle.std.specs.Prelude.{Option, None, Some, Float}
 use Prim.Native.Nat.{ℕ, ◌-◌, ◌*◌, ◌+◌, ◌≤◌}
 use native.Mathlib.Omega.{arith}
 use mathlib.Core.Bool.{Bool, true, false, ◌||◌}
@@ -9,24 +10,20 @@ use lib.Ieee.Scale.{finite}
 use lib.ListN.{length}
 use lib.Signed.{le_z}
 use borrow.Author.Tests.{lt-ltb, le-leb, eq-eqb}
+use Rattle.double.specs.declared.Yield.{Yield}
+use Rattle.double.specs.declared.Yield.TheVariants.{Absent}
 use Rattle.le.specs.Le.{part, le_bytes, sign_bits}
 use Rattle.le.specs.Field.{u8, u32, i64, f64, put_i32, put_i64}
 use Rattle.le.proofs.Laws.{le_nat-le_bytes}
 use Rattle.text.specs.Text.{same}
 use Rattle.text.proofs.Conditions.{none_left, ◌also◌, sure}
 use Rattle.text.proofs.Same.{same_refl}
-use Rattle.double.specs.declared.Yield.{Yield}
-use Rattle.double.specs.declared.Yield.TheVariants.{Absent}
 use Rattle.operate.specs.Operate.{LO, SO}
 use Rattle.bar.specs.Bar.{last_id, time_ok}
 use Rattle.bar.specs.declared.Time.{Time}
 use Rattle.sheet.specs.Sheet.{Sheet}
 use Rattle.position.specs.State.{pos_code}
-use Rattle.position.specs.declared.Open.{Open}
-use Rattle.position.specs.declared.Open.TheVariants as Open
 use Rattle.position.specs.declared.LastEvent.{LastEvent}
-use Rattle.position.specs.declared.Reference.{Reference}
-use Rattle.position.specs.declared.Reference.TheVariants as Reference
 use Rattle.position.specs.declared.Head.{Head}
 use Rattle.position.specs.declared.Hold.{Hold}
 use Rattle.position_laws.proofs.Sound.{OpenOk, HoldOk, ReferenceOk, HeadOk}
@@ -47,20 +44,20 @@ abbrev referred : List ℕ → LastEvent
 referred b = record { bar = record { id = u32 b 68; time = time_at b 72 80; price = f64 b 88 }; operate = u8 b 29; event = u32 b 84 }
 
 module _ (b : List ℕ) (end : Time) (past : i64 b 32 ≡ end.instant.0) where
-  open_passes : (at offset : ℕ) (o : Open) → part b at 8 ≡ put_i64 (open_time o).instant.0 → part b offset 4 ≡ put_i32 (open_time o).offset
+  open_passes : (at offset : ℕ) (o : Option Time) → part b at 8 ≡ put_i64 (open_time o).instant.0 → part b offset 4 ≡ put_i32 (open_time o).offset
       → open_at (open_flag o) (time_at b at offset) ≡ o → OpenOk end o → open_ok b (open_flag o) at offset ≡ true
   unfolding same le_bytes sign_bits
-  open_passes at offset Open.Never p q back h = rw (p, q) refl
-  open_passes at offset (Open.At t) p q back h =
+  open_passes at offset None p q back h = rw (p, q) refl
+  open_passes at offset (Some t) p q back h =
       let e : time_at b at offset ≡ t = ap open_time back in
       rw (ap time_ok e ∙ h.0, ap₂ le_z (ap (λ (x : Time). x.instant.0) e) past ∙ h.1) refl
 
   module _ (s : Sheet) where
-    reference_passes : (r : Reference) → u8 b 29 ≡ reference_operate r → part b 68 28 ≡ reference_bytes r
+    reference_passes : (r : Option LastEvent) → u8 b 29 ≡ reference_operate r → part b 68 28 ≡ reference_bytes r
         → reference_at (reference_flag r) (referred b) ≡ r → ReferenceOk s end r → reference_ok b (reference_flag r) ≡ true
     unfolding same
-    reference_passes Reference.Never p q back h = rw (p, q) refl
-    reference_passes (Reference.At r) p q back h =
+    reference_passes None p q back h = rw (p, q) refl
+    reference_passes (Some r) p q back h =
         let e : referred b ≡ r = cc in
         rw (
           ap (λ (x : LastEvent). eqb x.operate LO || eqb x.operate SO) e ∙ h.operate,
@@ -71,19 +68,19 @@ module _ (b : List ℕ) (end : Time) (past : i64 b 32 ≡ end.instant.0) where
         )
         refl
 
-    event_passes : (r : Reference) → reference_at (reference_flag r) (referred b) ≡ r → ReferenceOk s end r
+    event_passes : (r : Option LastEvent) → reference_at (reference_flag r) (referred b) ≡ r → ReferenceOk s end r
         → (eqb (reference_flag r) 0 || ltb (u32 b 84) (length s.events)) ≡ true
-    event_passes Reference.Never back h = refl
-    event_passes (Reference.At r) back h =
+    event_passes None back h = refl
+    event_passes (Some r) back h =
         let e : referred b ≡ r = cc in
         ap (λ (x : LastEvent). ltb x.event (length s.events)) e ∙ lt-ltb r.event (length s.events) h.event
 
 -- ---- the header
 
-reference-place : (r : Reference) (rest : List ℕ) → part (reference_bytes r ++ rest) 0 28 ≡ reference_bytes r
+reference-place : (r : Option LastEvent) (rest : List ℕ) → part (reference_bytes r ++ rest) 0 28 ≡ reference_bytes r
 unfolding part le_bytes
-reference-place Reference.Never rest = refl
-reference-place (Reference.At r) rest = refl
+reference-place None rest = refl
+reference-place (Some r) rest = refl
 
 module _ (c hs rs : ℕ) (h : Head) (rest : List ℕ) where
   -- the header, and what is behind it

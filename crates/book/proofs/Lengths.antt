@@ -1,19 +1,19 @@
 -- How long the bytes of a book and of its parts are, and which capacity a book's length gives. Assumes nothing.
+use Rattle.std.proofs.lemmas.Option.{same_Some, none-some}
 use Prim.Native.Nat.{ℕ, ◌+◌, ◌-◌, ◌*◌, ◌/◌, ◌≤◌}
 use native.Mathlib.Omega.{arith}
 use mathlib.Core.Bool.{Bool, true, false, cond, ◌&&◌}
 use mathlib.Core.List.{List, ◌++◌, flat_map}
-use mathlib.Core.Option.{none, some, some-injective, none-ne-some}
+use Rattle.std.specs.Prelude.{None, Some, Option, Float}
 use mathlib.Core.Path.{◌≡◌, refl, subst}
 use lib.Dec.{leb, eqb}
 use lib.ListN.{length, replicate, length-append, length-replicate}
 use borrow.Author.Tests.{le-leb, leb-true, eq-eqb, eqb-true}
-use Rattle.le.specs.Le.{le_bytes}
 use Rattle.double.specs.declared.Yield.{Yield}
 use Rattle.double.specs.declared.Yield.TheVariants.{Absent, Bp}
+use Rattle.position.specs.declared.LastEvent.{LastEvent}
+use Rattle.le.specs.Le.{le_bytes}
 use Rattle.position.specs.State.{State}
-use Rattle.position.specs.declared.Reference.{Reference}
-use Rattle.position.specs.declared.Reference.TheVariants as Reference
 use Rattle.position.specs.declared.Head.{Head}
 use Rattle.position.specs.declared.Record.{Record}
 use Rattle.position.specs.declared.Hold.{Hold}
@@ -22,10 +22,10 @@ use Rattle.book.proofs.Items.{Written, items_length}
 
 -- ---- the parts
 
-reference-length : (r : Reference) → length (reference_bytes r) ≡ 28
+reference-length : (r : Option LastEvent) → length (reference_bytes r) ≡ 28
 unfolding le_bytes
-reference-length Reference.Never = refl
-reference-length (Reference.At r) = refl
+reference-length None = refl
+reference-length (Some r) = refl
 
 pub head-length : (c hs rs : ℕ) (h : Head) → length (head_bytes c hs rs h) ≡ 96
 unfolding head_bytes le_bytes
@@ -84,29 +84,29 @@ length-encode c st h k =
 
 -- ---- capacity
 
-pub capacity_by : (b : List ℕ) (c : ℕ) → length b ≡ 96 + 64 * c → 1 ≤ c → c ≤ bar_limit → capacity b ≡ some c
+pub capacity_by : (b : List ℕ) (c : ℕ) → length b ≡ 96 + 64 * c → 1 ≤ c → c ≤ bar_limit → capacity b ≡ Some c
 unfolding capacity
 capacity_by b c e l h = rw (e, back, eq-eqb (96 + 64 * c) (96 + 64 * c) refl, le-leb 1 c l, le-leb c bar_limit h) refl
   where
     back : (96 + 64 * c - 96) / 64 ≡ c
     back = omega arith
 
-pub capacity-is : (c : ℕ) (st : State) → length st.holds ≤ c → length st.records ≤ c → 1 ≤ c → c ≤ bar_limit → capacity (encode c st) ≡ some c
+pub capacity-is : (c : ℕ) (st : State) → length st.holds ≤ c → length st.records ≤ c → 1 ≤ c → c ≤ bar_limit → capacity (encode c st) ≡ Some c
 capacity-is c st h k l t = capacity_by (encode c st) c (length-encode c st h k) l t
 
 -- and what a book's capacity says of its length
-pub capacity_range : (b : List ℕ) (c : ℕ) → capacity b ≡ some c → (length b ≡ 96 + 64 * c) × (1 ≤ c) × (c ≤ bar_limit)
+pub capacity_range : (b : List ℕ) (c : ℕ) → capacity b ≡ Some c → (length b ≡ 96 + 64 * c) × (1 ≤ c) × (c ≤ bar_limit)
 unfolding capacity
 capacity_range b c e = go (eqb (length b) (96 + 64 * k)) (leb 1 k) (leb k bar_limit) refl refl refl e
   where
     k : ℕ
     k = (length b - 96) / 64
 
-    go : (t u v : Bool) → eqb (length b) (96 + 64 * k) ≡ t → leb 1 k ≡ u → leb k bar_limit ≡ v → cond (t && u && v) (some k) none ≡ some c
+    go : (t u v : Bool) → eqb (length b) (96 + 64 * k) ≡ t → leb 1 k ≡ u → leb k bar_limit ≡ v → cond (t && u && v) (Some k) None ≡ Some c
         → (length b ≡ 96 + 64 * c) × (1 ≤ c) × (c ≤ bar_limit)
     go true true true p q r e =
-        subst (λ (x : ℕ). (length b ≡ 96 + 64 * x) × (1 ≤ x) × (x ≤ bar_limit)) (some-injective k c e)
+        subst (λ (x : ℕ). (length b ≡ 96 + 64 * x) × (1 ≤ x) × (x ≤ bar_limit)) (same_Some k c e)
         (eqb-true (length b) (96 + 64 * k) p, leb-true 1 k q, leb-true k bar_limit r)
-    go true true false p q r e = absurd (none-ne-some c e)
-    go true false v p q r e = absurd (none-ne-some c e)
-    go false u v p q r e = absurd (none-ne-some c e)
+    go true true false p q r e = absurd (none-some c e)
+    go true false v p q r e = absurd (none-some c e)
+    go false u v p q r e = absurd (none-some c e)

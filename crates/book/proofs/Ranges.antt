@@ -1,4 +1,5 @@
 -- What is sound fits the bytes of a book: times, bars, yields, holds, records, the head. Assumes nothing.
+use Rattle.std.specs.Prelude.{Option, None, Some, Float}
 use Prim.Native.Nat.{ℕ, ◌^◌, ◌≤◌, ◌<◌}
 use native.Mathlib.Omega.{arith}
 use mathlib.Core.Bool.{true, and-eq-true_iff, false≢true}
@@ -10,16 +11,13 @@ use lib.Signed.{mag, le_z}
 use borrow.Author.Tests.{leb-true}
 use Rattle.double.specs.declared.Yield.{Yield}
 use Rattle.double.specs.declared.Yield.TheVariants.{Absent, Bp}
+use Rattle.position.specs.declared.LastEvent.{LastEvent}
 use Rattle.bar.specs.Bar.{last_instant, instant_ok, offset_ok, time_ok}
 use Rattle.bar.specs.declared.Time.{Time}
 use Rattle.bar.specs.declared.Bar.{Bar}
 use Rattle.sheet.specs.Sheet.{Sheet, lots_limit, lots_ok}
 use Rattle.position.specs.declared.Pos.{Pos}
 use Rattle.position.specs.declared.Pos.TheVariants.{Short, Flat, Long}
-use Rattle.position.specs.declared.Open.{Open}
-use Rattle.position.specs.declared.Open.TheVariants as Open
-use Rattle.position.specs.declared.Reference.{Reference}
-use Rattle.position.specs.declared.Reference.TheVariants as Reference
 use Rattle.position.specs.declared.Head.{Head}
 use Rattle.position.specs.declared.Description.{Description}
 use Rattle.position.specs.declared.Description.TheVariants.{Event, Stop, Timeout}
@@ -77,13 +75,13 @@ description_in s Timeout few h = tt
 pub record_in : (s : Sheet) (r : Record) → length s.events ≤ 32 → RecordOk s r → RecordIn r
 record_in s r few h = record { bar = bar_in_lem r.bar h.bar; description = description_in s r.description few h.named; lots = lots_in_lem r.lots h.lots }
 
-open_in : (end : Time) (o : Open) → OpenOk end o → OpenIn o
-open_in end Open.Never h = tt
-open_in end (Open.At t) h = time_in t h.0
+open_in : (end : Time) (o : Option Time) → OpenOk end o → OpenIn o
+open_in end None h = tt
+open_in end (Some t) h = time_in t h.0
 
-reference_in_lem : (s : Sheet) (end : Time) (r : Reference) → length s.events ≤ 32 → ReferenceOk s end r → ReferenceIn r
-reference_in_lem s end Reference.Never few h = tt
-reference_in_lem s end (Reference.At r) few h = record { bar = bar_in_lem r.bar h.bar; event = omega (arith, h.event) }
+reference_in_lem : (s : Sheet) (end : Time) (r : Option LastEvent) → length s.events ≤ 32 → ReferenceOk s end r → ReferenceIn r
+reference_in_lem s end None few h = tt
+reference_in_lem s end (Some r) few h = record { bar = bar_in_lem r.bar h.bar; event = omega (arith, h.event) }
 
 pub head_in : (s : Sheet) (h : Head) → length s.events ≤ 32 → HeadOk s h → HeadIn h
 head_in s h few k =

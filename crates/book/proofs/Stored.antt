@@ -4,7 +4,7 @@ use Prim.Native.Nat.{ℕ}
 use native.Mathlib.Omega.{arith}
 use mathlib.Core.Bool.{true}
 use mathlib.Core.List.{List}
-use mathlib.Core.Option.{some}
+use Rattle.std.specs.Prelude.{Some}
 use mathlib.Core.Path.{◌≡◌, sym}
 use lib.ListN.{length}
 use borrow.Author.Tests.{eq-eqb}
@@ -22,7 +22,7 @@ use Rattle.book.proofs.Lengths.{capacity-is}
 use Rattle.book.proofs.Passes.{Room, full_passes}
 
 module _ (table : List ℕ) (s : Sheet) (meant : read_table table ≡ Got s) (c : ℕ) (st : State) (sound : Sound s st) (room : Room s c st) where
-  pub bars-are : capacity (encode c st) ≡ some c
+  pub bars-are : capacity (encode c st) ≡ Some c
   bars-are = let few = sound.few in capacity-is c st room.holds (omega arith) room.least room.most
 
   pub sized-is : sized table (encode c st) ≡ Got c

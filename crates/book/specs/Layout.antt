@@ -1,21 +1,16 @@
 -- The book: "Little-endian, 96 + 64C bytes, C 1..1,000,000 bars." What a state is in bytes, and what bytes are in values. Assumes nothing.
-use Rattle.std.specs.Prelude.{ℕ, zero, suc, ◌+◌, ◌-◌, ◌*◌, ◌/◌, Bool, true, false, cond, ◌&&◌, leb, eqb, Float, length, replicate}
+use Rattle.std.specs.Prelude.{ℕ, zero, suc, ◌+◌, ◌-◌, ◌*◌, ◌/◌, Bool, true, false, cond, ◌&&◌, leb, eqb, Float, length, replicate, Option, None, Some}
 use mathlib.Core.List.{List, [], ◌∷◌, ◌++◌, map, flat_map}
-use Rattle.std.proofs.Math.Option.{Option, none, some}
-use Rattle.le.specs.Le.{part}
-use Rattle.le.specs.Field.{u8, u16, u32, i32, i64, f64, put16, put32, put_i32, put_i64, put_f64}
 use Rattle.double.specs.declared.Yield.{Yield}
 use Rattle.double.specs.declared.Yield.TheVariants.{Absent, Bp}
+use Rattle.le.specs.Le.{part}
+use Rattle.le.specs.Field.{u8, u16, u32, i32, i64, f64, put16, put32, put_i32, put_i64, put_f64}
 use Rattle.bar.specs.declared.Time.{Time}
 use Rattle.position.specs.State.{State, fresh_state, no_time, pos_code}
 use Rattle.position.specs.Step.{held_lots}
 use Rattle.position.specs.declared.Pos.{Pos}
 use Rattle.position.specs.declared.Pos.TheVariants.{Short, Flat, Long}
-use Rattle.position.specs.declared.Open.{Open}
-use Rattle.position.specs.declared.Open.TheVariants as Open
 use Rattle.position.specs.declared.LastEvent.{LastEvent}
-use Rattle.position.specs.declared.Reference.{Reference}
-use Rattle.position.specs.declared.Reference.TheVariants as Reference
 use Rattle.position.specs.declared.Head.{Head}
 use Rattle.position.specs.declared.Description.{Description}
 use Rattle.position.specs.declared.Description.TheVariants.{Event, Stop, Timeout}
@@ -30,7 +25,7 @@ bar_limit = 1_000_000
 unfoldable pub capacity : List ℕ → Option ℕ
 capacity b =
     let c = (length b - 96) / 64 in
-    cond (eqb (length b) (96 + 64 * c) && leb 1 c && leb c bar_limit) (some c) none
+    cond (eqb (length b) (96 + 64 * c) && leb 1 c && leb c bar_limit) (Some c) None
 
 -- ---- values in bytes: "Absent is zero; presence bytes and changed are 0 or 1."
 
@@ -42,26 +37,26 @@ flag false = 0
 abbrev pub time_bytes : Time → List ℕ
 time_bytes t = put_i64 t.instant.0 ++ put_i32 t.offset
 
-abbrev pub open_flag : Open → ℕ
-open_flag Open.Never = 0
-open_flag (Open.At t) = 1
+abbrev pub open_flag : Option Time → ℕ
+open_flag None = 0
+open_flag (Some t) = 1
 
-abbrev pub open_time : Open → Time
-open_time Open.Never = no_time
-open_time (Open.At t) = t
+abbrev pub open_time : Option Time → Time
+open_time None = no_time
+open_time (Some t) = t
 
-abbrev pub reference_flag : Reference → ℕ
-reference_flag Reference.Never = 0
-reference_flag (Reference.At r) = 1
+abbrev pub reference_flag : Option LastEvent → ℕ
+reference_flag None = 0
+reference_flag (Some r) = 1
 
-abbrev pub reference_operate : Reference → ℕ
-reference_operate Reference.Never = 0
-reference_operate (Reference.At r) = r.operate
+abbrev pub reference_operate : Option LastEvent → ℕ
+reference_operate None = 0
+reference_operate (Some r) = r.operate
 
 -- "68 reference id; i64 72 reference; i32 80 its offset; u32 84 event index; 88 price"
-abbrev pub reference_bytes : Reference → List ℕ
-reference_bytes Reference.Never = replicate 28 0
-reference_bytes (Reference.At r) = put32 r.bar.id ++ time_bytes r.bar.time ++ put32 r.event ++ put_f64 r.bar.price
+abbrev pub reference_bytes : Option LastEvent → List ℕ
+reference_bytes None = replicate 28 0
+reference_bytes (Some r) = put32 r.bar.id ++ time_bytes r.bar.time ++ put32 r.event ++ put_f64 r.bar.price
 
 -- "Header: u32 holds H, records R, C, 96, 96+32C, length; bytes 24..31 pos (0 Short, 1 Flat, 2 Long), changed, long open present, short
 -- open present, reference present, its operate, 0, 0; 32 i64 end; i32 40 its offset, 44 long open's offset; i64 48 long open, 56 short
@@ -135,13 +130,13 @@ pos_at zero = Short
 pos_at (suc zero) = Flat
 pos_at (suc (suc n)) = Long
 
-abbrev pub open_at : ℕ → Time → Open
-open_at zero t = Open.Never
-open_at (suc n) t = Open.At t
+abbrev pub open_at : ℕ → Time → Option Time
+open_at zero t = None
+open_at (suc n) t = Some t
 
-abbrev pub reference_at : ℕ → LastEvent → Reference
-reference_at zero r = Reference.Never
-reference_at (suc n) r = Reference.At r
+abbrev pub reference_at : ℕ → LastEvent → Option LastEvent
+reference_at zero r = None
+reference_at (suc n) r = Some r
 
 unfoldable pub head_of : List ℕ → Head
 head_of b =

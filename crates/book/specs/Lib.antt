@@ -2,4 +2,5 @@
 pub mod Layout
 pub mod Check
 pub mod Calls
+pub mod Opened
 pub mod Distance

@@ -73,44 +73,50 @@ unfolding all_of every since rising
 asked-none f b p zero = refl
 asked-none f b p (suc i) = refl
 
--- the slots before number i, which is at p, have f and rise
-pub record Walking (f : List ℕ → Bool) (b : List ℕ) (at n p i : ℕ) : Type 0 where
-  pub le : i ≤ n
-  pub here : p ≡ at + 32 * i
-  pub room : at + 32 * n ≤ length b
-  pub still : orderly f (slots b at n) ≡ asked f b p i (slots b p (n - i))
+joined : (x y z : Bool) → cond x (cond y z false) false ≡ cond (x && y) z false
+joined true y z = refl
+joined false y z = refl
 
-pub walking_first : (f : List ℕ → Bool) (b : List ℕ) (at n : ℕ) → at + 32 * n ≤ length b → Walking f b at n at 0
+-- the slots before number i have f and rise
+pub record Walking (f : List ℕ → Bool) (b : List ℕ) (at n i : ℕ) : Type 0 where
+  pub room : at + 32 * n ≤ length b
+  pub still : orderly f (slots b at n) ≡ asked f b (at + 32 * i) i (slots b (at + 32 * i) (n - i))
+
+pub walking_first : (f : List ℕ → Bool) (b : List ℕ) (at n : ℕ) → at + 32 * n ≤ length b → Walking f b at n 0
 unfolding orderly since
 walking_first f b at n h =
     let e : n - 0 ≡ n = omega arith in
-    record { le = omega arith; here = omega arith; room = h; still = rw e refl }
+    let p : at + 32 * 0 ≡ at = omega arith in
+    record { room = h; still = rw (e, p) refl }
 
-module _ {f : List ℕ → Bool} {b : List ℕ} {at n p i : ℕ} (w : Walking f b at n p i) where
+module _ {f : List ℕ → Bool} {b : List ℕ} {at n i : ℕ} (w : Walking f b at n i) where
   pub walking_last : n ≤ i → true ≡ orderly f (slots b at n)
   unfolding slots
   walking_last h =
       let e : n - i ≡ 0 = omega arith in
-      sym (w.still ∙ rw e (asked-none f b p i))
+      sym (w.still ∙ rw e (asked-none f b (at + 32 * i) i))
 
   module _ (h : i < n) where
-    turn : orderly f (slots b at n) ≡ cond (f (part b p 32)) (cond (risen b p i) (asked f b (p + 32) (i + 1) (slots b (p + 32) (n - (i + 1)))) false) false
-    unfolding slots
+    -- the slot, and the slots behind it
+    later : Bool
+    later = asked f b (at + 32 * i + 32) (i + 1) (slots b (at + 32 * i + 32) (n - (i + 1)))
+
+    turn : orderly f (slots b at n) ≡ cond (f (part b (at + 32 * i) 32) && risen b (at + 32 * i) i) later false
+    unfolding slots later
     turn =
         let e : n - i ≡ suc (n - (i + 1)) = omega arith in
-        w.still ∙ rw e (asked-more f b p i (slots b (p + 32) (n - (i + 1))))
+        w.still ∙ rw e (asked-more f b (at + 32 * i) i (slots b (at + 32 * i + 32) (n - (i + 1)))) ∙ joined (f (part b (at + 32 * i) 32)) (risen b (at + 32 * i) i) later
 
-    module _ {x : Bool} (told : x ≡ f (take (p + 32 - p) (drop p b))) where
-      -- what is told of the slot as it is lent
-      slot_is : f (part b p 32) ≡ x
-      slot_is = sym (told ∙ ap f (part_lent b p 32))
+    -- what is told of the slot as it is lent
+    module _ {v : Bool} (told : v ≡ (f (take (at + 32 * i + 32 - (at + 32 * i)) (drop (at + 32 * i) b)) && risen b (at + 32 * i) i)) where
+      told_is : (f (part b (at + 32 * i) 32) && risen b (at + 32 * i) i) ≡ v
+      told_is = sym (told ∙ ap (λ (l : List ℕ). f l && risen b (at + 32 * i) i) (part_lent b (at + 32 * i) 32))
 
-      pub walking_off : x ≡ false → false ≡ orderly f (slots b at n)
-      walking_off e = sym (turn ∙ rw (slot_is, e))
+      pub walking_off : v ≡ false → false ≡ orderly f (slots b at n)
+      walking_off e = sym (turn ∙ rw (told_is, e))
 
-      module _ (ok : x ≡ true) where
-        pub walking_down : risen b p i ≡ false → false ≡ orderly f (slots b at n)
-        walking_down e = sym (turn ∙ rw (slot_is, ok, e))
-
-        pub walking_more : risen b p i ≡ true → Walking f b at n (p + 32) (i + 1)
-        walking_more e = record { le = omega arith; here = omega arith; room = w.room; still = turn ∙ rw (slot_is, ok, e) }
+      pub walking_more : v ≡ true → Walking f b at n (i + 1)
+      unfolding later
+      walking_more e =
+          let next : at + 32 * i + 32 ≡ at + 32 * (i + 1) = omega arith in
+          record { room = w.room; still = rw (← next) (turn ∙ rw (told_is, e)) }

@@ -9,30 +9,21 @@ ghost use Rattle.book.specs.Check.{hold_ok, record_ok, full_ok};
 ghost use Rattle.book_check.specs.Read.{CheckedAs};
 ghost use Rattle.book_check.specs.Walk.{orderly, risen};
 
+use book::{ENTRY_LENGTH, HEAD_LENGTH, OpenError};
 use book_entry_check::{hold_ok, record_ok};
 use book_header_check::header_ok;
 use le::{get_i64, get_u32};
 use table::read_counts;
 use table_check::is_table;
 
-// The bytes are a book of the table, or why they are not.
-#[derive(Clone, Copy)]
-pub enum Checked {
-    Passed,
-    NotTable,
-    NotBook,
-}
-
 // Whether the instant of slot number i, at p, is above that of the slot before it, where there is one.
+#[tactic(auto, unfolding(crate::specs::Walk::risen))]
 fn rises(b: &[u8], p: usize, i: usize) -> bool
     requires p_in_bounds { p + 32 ≤ length b.now }
     requires i_bound { 32 * i ≤ p }
     ensures { result ≡ risen b.now p i }
 {
-    if i == 0 {
-        return true;
-    }
-    get_i64(b, p - 32) < get_i64(b, p)
+    i == 0 || get_i64(b, p - ENTRY_LENGTH) < get_i64(b, p)
 }
 
 // Whether the n holds from `at` on are in range, their instants strictly rising.
@@ -40,18 +31,11 @@ fn holds_ok(b: &[u8], at: usize, n: usize) -> bool
     requires { at + 32 * n ≤ length b.now }
     ensures { result ≡ orderly hold_ok (slots b.now at n) }
 {
-    let mut p = at;
-    let mut i: usize = 0;
-    while i < n {
-        let end = p + 32;
-        if !hold_ok(&b[p..end]) {
+    for i in 0..n {
+        let p = at + ENTRY_LENGTH * i;
+        if !(hold_ok(&b[p..p + ENTRY_LENGTH]) && rises(b, p, i)) {
             return false;
         }
-        if !rises(b, p, i) {
-            return false;
-        }
-        p = end;
-        i += 1;
     }
     true
 }
@@ -61,18 +45,11 @@ fn records_ok(b: &[u8], at: usize, n: usize, events: u32) -> bool
     requires { at + 32 * n ≤ length b.now }
     ensures { result ≡ orderly (record_ok events) (slots b.now at n) }
 {
-    let mut p = at;
-    let mut j: usize = 0;
-    while j < n {
-        let end = p + 32;
-        if !record_ok(&b[p..end], events) {
+    for i in 0..n {
+        let p = at + ENTRY_LENGTH * i;
+        if !(record_ok(&b[p..p + ENTRY_LENGTH], events) && rises(b, p, i)) {
             return false;
         }
-        if !rises(b, p, j) {
-            return false;
-        }
-        p = end;
-        j += 1;
     }
     true
 }
@@ -82,10 +59,7 @@ fn event_ok(b: &[u8], events: u32) -> bool
     requires { 96 ≤ length b.now }
     ensures { result ≡ (eqb (u8 b.now 28) 0 || ltb (u32 b.now 84) events) }
 {
-    if b[28] == 0 {
-        return true;
-    }
-    get_u32(b, 84) < events
+    b[28] == 0 || get_u32(b, 84) < events
 }
 
 // Whether b of c bars passes the full check, of a table with so many events.
@@ -93,31 +67,27 @@ fn full_ok(b: &[u8], c: u32, events: u32) -> bool
     requires { SizeOk b.now c }
     ensures { result ≡ full_ok events c b.now }
 {
+    // By itself: the lists that the counts tell of are in the book only where the header is right.
     if !header_ok(b, c) {
         return false;
     }
-    if !event_ok(b, events) {
-        return false;
-    }
     let holds = get_u32(b, 0) as usize;
-    if !holds_ok(b, 96, holds) {
-        return false;
-    }
     let records = get_u32(b, 4) as usize;
-    records_ok(b, 96 + 32 * (c as usize), records, events)
+    event_ok(b, events)
+        && holds_ok(b, HEAD_LENGTH, holds)
+        && records_ok(b, HEAD_LENGTH + ENTRY_LENGTH * c as usize, records, events)
 }
 
 // Whether b of c bars is a book of the table: the answers 9 and 10.
-pub fn check_book(table: &[u8], b: &[u8], c: u32) -> Checked
+pub fn check_book(table: &[u8], b: &[u8], c: u32) -> Result<(), OpenError>
     requires { SizeOk b.now c }
     ensures { CheckedAs table.now c b.now result }
 {
     if !is_table(table) {
-        return Checked::NotTable;
+        return Err(OpenError::NotTable);
     }
-    let counts = read_counts(table);
-    if !full_ok(b, c, counts.events) {
-        return Checked::NotBook;
+    if !full_ok(b, c, read_counts(table).events) {
+        return Err(OpenError::NotBook);
     }
-    Checked::Passed
+    Ok(())
 }

@@ -9,18 +9,19 @@ ghost use Rattle.book.specs.Layout.{yield_flag, yield_bytes, yield_at, read_lots
 ghost use Rattle.book_entry.specs.Numbers.{HoldNumbers};
 
 use bar::Bar;
-use book_field::{double_at, pos_at, pos_code, put_four, put_time, put_two, time_at};
+use book_field::{double_at, pos_at, pos_code, put_bytes, put_time, time_at};
 use double::Yield;
 use position::{Description, Hold, Record};
 use position_machine::held_lots;
 
-// The yield of its flag and its double.
+// The yield of its presence byte and its double.
 fn yield_at(flag: u8, x: f64) -> Yield
     ensures { result ≡ yield_at flag x }
 {
-    match flag {
-        0 => Yield::Absent,
-        _ => Yield::Bp(x),
+    if flag == 0 {
+        Yield::Absent
+    } else {
+        Yield::Bp(x)
     }
 }
 
@@ -28,10 +29,7 @@ fn yield_at(flag: u8, x: f64) -> Yield
 fn read_lots(n: u16) -> u16
     ensures { result ≡ read_lots n }
 {
-    if n == 0 {
-        return 1;
-    }
-    n
+    n.max(1)
 }
 
 // The hold whose bytes o begins with.
@@ -77,13 +75,11 @@ pub fn put_hold(b: &mut [u8], at: usize, o: Hold)
     requires hold_numbers { HoldNumbers o }
     ensures { b.new ≡ patch b.old at (hold_bytes o) }
 {
-    let pos = o.pos;
-    let n1b = o.n1b;
     put_time(b, at, o.time);
-    put_two(b, at + 12, pos_code(pos), yield_flag(n1b));
+    put_bytes(b, at + 12, &[pos_code(o.pos), yield_flag(o.n1b)]);
     le::put_u16(b, at + 14, o.lots);
     le::put_f64(b, at + 16, o.price);
-    put_yield(b, at + 24, n1b);
+    put_yield(b, at + 24, o.n1b);
 }
 
 // The description of its code: 1 an event, 2 a stop, 3 a timeout.
@@ -91,8 +87,7 @@ fn description_at(code: u8, event: u16) -> Description
     ensures { result ≡ description_at code event }
 {
     match code {
-        0 => Description::Event(event),
-        1 => Description::Event(event),
+        0 | 1 => Description::Event(event),
         2 => Description::Stop,
         _ => Description::Timeout,
     }
@@ -103,13 +98,12 @@ pub fn record_at(o: &[u8]) -> Record
     requires { 32 ≤ length o.now }
     ensures { result ≡ record_of o.now }
 {
-    let bar = Bar {
-        id: le::get_u32(o, 12),
-        time: time_at(o, 0, 8),
-        price: double_at(o, 16),
-    };
     Record {
-        bar,
+        bar: Bar {
+            id: le::get_u32(o, 12),
+            time: time_at(o, 0, 8),
+            price: double_at(o, 16),
+        },
         operate: o[24],
         pos: pos_at(o[25]),
         description: description_at(o[26], le::get_u16(o, 28)),
@@ -134,8 +128,7 @@ pub fn description_event(d: Description) -> u16
 {
     match d {
         Description::Event(i) => i,
-        Description::Stop => 0,
-        Description::Timeout => 0,
+        Description::Stop | Description::Timeout => 0,
     }
 }
 
@@ -145,20 +138,19 @@ pub fn put_record(b: &mut [u8], at: usize, r: Record)
     requires price_value { finite r.bar.price ≡ true }
     ensures { b.new ≡ patch b.old at (record_bytes r) }
 {
-    let bar = r.bar;
-    let pos = r.pos;
-    let description = r.description;
-    put_time(b, at, bar.time);
-    le::put_u32(b, at + 12, bar.id);
-    le::put_f64(b, at + 16, bar.price);
-    put_four(
+    put_time(b, at, r.bar.time);
+    le::put_u32(b, at + 12, r.bar.id);
+    le::put_f64(b, at + 16, r.bar.price);
+    put_bytes(
         b,
         at + 24,
-        r.operate,
-        pos_code(pos),
-        description_code(description),
-        0,
+        &[
+            r.operate,
+            pos_code(r.pos),
+            description_code(r.description),
+            0,
+        ],
     );
-    le::put_u16(b, at + 28, description_event(description));
+    le::put_u16(b, at + 28, description_event(r.description));
     le::put_u16(b, at + 30, r.lots);
 }

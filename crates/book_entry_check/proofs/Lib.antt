@@ -1,3 +1,2 @@
--- The laws of the checks of a hold and of a record.
+-- Laws of the checks of holds and records.
 pub mod ZeroBytes
-pub mod Presence

@@ -1,52 +1,39 @@
--- Zero bytes one by one: `Left`, what is left of them, is the invariant of `zeros`. Assumes nothing.
-use Prim.Native.Nat.{ℕ, suc, ◌+◌, ◌-◌, ◌≤◌, ◌<◌}
-use native.Mathlib.Numerals.{add-one}
+-- Bytes each of which is zero are the same as zeros. Assumes nothing.
+use Rattle.std.specs.Prelude.{IsTrue, EachIndex, ◌↔◌}
+use Prim.Native.Nat.{ℕ, ◌+◌, ◌-◌, ◌≤◌, ◌<◌}
 use native.Mathlib.Omega.{arith}
-use mathlib.Core.Bool.{true, false, ◌&&◌}
+use mathlib.Core.Bool.{Bool, true, false}
 use mathlib.Core.List.{List}
-use mathlib.Core.Logic.{◌≢◌}
-use mathlib.Core.Path.{◌≡◌, refl, sym, ◌∙◌}
-use lib.Dec.{eqb}
-use lib.ListN.{length, get_or}
-use lib.Seq.{drop-cons}
-use borrow.Author.Tests.{eq-eqb, ne_eqb}
+use mathlib.Core.Path.{◌≡◌, refl, sym, ap, ◌∙◌}
+use lib.ListN.{length, get_or, take, drop, replicate, length-replicate, length-drop}
+use lib.Seq.{length-take-le}
+use Rattle.std.proofs.lemmas.List.{get_or-replicate, ext_get_or}
 use Rattle.le.specs.Le.{part}
 use Rattle.text.specs.Text.{same}
+use Rattle.text.proofs.Same.{same_refl, same_eq}
 use Rattle.book.specs.Check.{zeros}
 
--- from i on, of the n bytes from `at` on
-pub record Left (b : List ℕ) (at n i : ℕ) : Type 0 where
-  pub high : i ≤ at + n
-  pub within : at + n ≤ length b
-  pub still : zeros b at n ≡ zeros b i (at + n - i)
+-- r says of each byte of s that it is zero
+each_zero : (r : Bool) (s : List ℕ) (n : ℕ) → length s ≡ n → (IsTrue r ↔ EachIndex s (λ k. get_or s k 0 ≡ 0)) → r ≡ same s (replicate n 0)
+each_zero r s n e h = go r (same s (replicate n 0)) h refl
+  where
+    zero_at : (i : ℕ) → i < n → get_or {A = ℕ} (replicate n 0) i 0 ≡ 0
+    zero_at i l = get_or-replicate n i 0 0 l
 
-none : (b : List ℕ) (i : ℕ) → zeros b i 0 ≡ true
-unfolding same part
-none b i = refl
+    go : (r t : Bool) → (IsTrue r ↔ EachIndex s (λ k. get_or s k 0 ≡ 0)) → same s (replicate n 0) ≡ t → r ≡ t
+    go true true h k = refl
+    go false false h k = refl
+    go true false h k =
+        let z : s ≡ replicate n 0 = ext_get_or 0 s (replicate n 0) (e ∙ sym (length-replicate n 0)) (λ i l. h.0 refl i l ∙ sym (zero_at i (omega arith))) in
+        sym (same_refl s) ∙ ap (same s) z ∙ k
+    go false true h k =
+        let z : s ≡ replicate n 0 = same_eq s (replicate n 0) k in
+        h.1 (λ i l. ap (λ (t : List ℕ). get_or t i 0) z ∙ zero_at i (omega arith))
 
-one : (b : List ℕ) (i k : ℕ) → i < length b → zeros b i (suc k) ≡ (eqb (get_or b i 0) 0 && zeros b (i + 1) k)
-unfolding same part
-one b i k h = rw (add-one, drop-cons b i 0 h)
-
-pub all_left : {b : List ℕ} {at n : ℕ} → at + n ≤ length b → Left b at n at
-all_left {b} {at} {n} h =
-    let e : at + n - at ≡ n = omega arith in
-    record { high = omega arith; within = h; still = rw e }
-
-module _ {b : List ℕ} {at n i : ℕ} (l : Left b at n i) where
-  pub none_left : at + n ≤ i → true ≡ zeros b at n
-  none_left h =
-      let e : at + n - i ≡ 0 = omega arith in
-      sym (l.still ∙ rw e (none b i))
-
-  module _ (h : i < at + n) where
-    step : zeros b at n ≡ (eqb (get_or b i 0) 0 && zeros b (i + 1) (at + n - (i + 1)))
-    step =
-        let e : at + n - i ≡ suc (at + n - (i + 1)) = omega arith in
-        l.still ∙ rw e (one b i (at + n - (i + 1)) (omega arith))
-
-    pub differs : get_or b i 0 ≢ 0 → false ≡ zeros b at n
-    differs k = sym (step ∙ rw (ne_eqb _ _ k))
-
-    pub one-zero : get_or b i 0 ≡ 0 → Left b at n (i + 1)
-    one-zero k = record { high = omega arith; within = l.within; still = step ∙ rw (eq-eqb _ _ k) }
+pub are_zeros : (r : Bool) (b : List ℕ) (at n : ℕ) → at + n ≤ length b
+    → (IsTrue r ↔ EachIndex (take (at + n - at) (drop at b)) (λ k. get_or (take (at + n - at) (drop at b)) k 0 ≡ 0))
+    → r ≡ zeros b at n
+unfolding part
+are_zeros r b at n l h =
+    let size : at + n - at ≡ n = omega arith in
+    each_zero r (take n (drop at b)) n (length-take-le n (drop at b) (omega (arith, length-drop at b))) (rw size at h)

@@ -3,7 +3,7 @@
 
 ghost use Rattle.std.specs.Prelude.{◌≡◌, ◌+◌, ◌≤◌, length};
 ghost use Rattle.std.specs.Float.Ieee.Scale.{finite};
-ghost use Rattle.le.specs.Field.{f64};
+ghost use Rattle.le.specs.Field.{u8, f64};
 ghost use Rattle.bar.specs.Bar.{time_ok};
 ghost use Rattle.position.specs.State.{trades as State·trades};
 ghost use Rattle.book.specs.Layout.{time_at};
@@ -24,15 +24,7 @@ pub fn zeros(b: &[u8], at: usize, n: usize) -> bool
     requires { at + n ≤ length b.now }
     ensures { result ≡ Check·zeros b.now at n }
 {
-    let end = at + n;
-    let mut i = at;
-    while i < end {
-        if b[i] != 0 {
-            return false;
-        }
-        i += 1;
-    }
-    true
+    b[at..at + n].iter().all(|x| *x == 0)
 }
 
 // Whether the time is in range whose instant starts at `at`, and its offset at `offset`.
@@ -51,50 +43,34 @@ pub fn is_priced(b: &[u8], at: usize) -> bool
     is_finite(double_at(b, at))
 }
 
-// Whether the yield of a hold is right by its presence byte p: zero where absent, else no NaN.
-fn stored_yield_ok(o: &[u8], p: u8) -> bool
+// Whether the yield of a hold is right by its presence byte: zero where absent, else no NaN.
+fn stored_yield_ok(o: &[u8]) -> bool
     requires { 32 ≤ length o.now }
-    ensures { result ≡ stored_yield_ok o.now p }
+    ensures { result ≡ stored_yield_ok o.now (u8 o.now 13) }
 {
-    if p == 0 {
-        return zeros(o, 24, 8);
+    match o[13] {
+        0 => zeros(o, 24, 8),
+        1 => !is_nan_bits(get_u64(o, 24)),
+        _ => false,
     }
-    if p == 1 {
-        return !is_nan_bits(get_u64(o, 24));
-    }
-    false
 }
 
 // Whether an operate is LO, LE, SO or SE.
 fn trades(operate: u8) -> bool
     ensures { result ≡ State·trades operate }
 {
-    if operate == LO {
-        return true;
-    }
-    if operate == LE {
-        return true;
-    }
-    if operate == SO {
-        return true;
-    }
-    operate == SE
+    matches!(operate, LO | LE | SO | SE)
 }
 
 // Whether a description's code and event index are right, with n events in the table.
 fn description_ok(n: u32, code: u8, event: u16) -> bool
     ensures { result ≡ description_ok n code event }
 {
-    if code == 1 {
-        return (event as u32) < n;
+    match code {
+        1 => u32::from(event) < n,
+        2 | 3 => event == 0,
+        _ => false,
     }
-    if code == 2 {
-        return event == 0;
-    }
-    if code == 3 {
-        return event == 0;
-    }
-    false
 }
 
 // Whether the lots of a hold are right by its position: none when Flat.
@@ -106,50 +82,26 @@ fn held_lots_ok(o: &[u8]) -> bool
 }
 
 // Whether a hold is in range.
+#[tactic(auto, unfolding(text::specs::Conditions::all_of, book::specs::Check::hold_ok))]
 pub fn hold_ok(o: &[u8]) -> bool
     requires { 32 ≤ length o.now }
     ensures { result ≡ hold_ok o.now }
 {
-    if !is_timed(o, 0, 8) {
-        return false;
-    }
-    if 2 < o[12] {
-        return false;
-    }
-    if !stored_yield_ok(o, o[13]) {
-        return false;
-    }
-    if !held_lots_ok(o) {
-        return false;
-    }
-    is_priced(o, 16)
+    is_timed(o, 0, 8) && o[12] <= 2 && stored_yield_ok(o) && held_lots_ok(o) && is_priced(o, 16)
 }
 
 // Whether a record is in range, with n events in the table.
+#[tactic(auto, unfolding(text::specs::Conditions::all_of, book::specs::Check::record_ok))]
 pub fn record_ok(o: &[u8], n: u32) -> bool
     requires { 32 ≤ length o.now }
     ensures { result ≡ record_ok n o.now }
 {
-    if !is_timed(o, 0, 8) {
-        return false;
-    }
-    if LAST_ID < get_u32(o, 12) {
-        return false;
-    }
-    if !is_priced(o, 16) {
-        return false;
-    }
-    if !trades(o[24]) {
-        return false;
-    }
-    if 2 < o[25] {
-        return false;
-    }
-    if !description_ok(n, o[26], get_u16(o, 28)) {
-        return false;
-    }
-    if o[27] != 0 {
-        return false;
-    }
-    get_u16(o, 30) <= LOTS_LIMIT
+    is_timed(o, 0, 8)
+        && get_u32(o, 12) <= LAST_ID
+        && is_priced(o, 16)
+        && trades(o[24])
+        && o[25] <= 2
+        && description_ok(n, o[26], get_u16(o, 28))
+        && o[27] == 0
+        && get_u16(o, 30) <= LOTS_LIMIT
 }

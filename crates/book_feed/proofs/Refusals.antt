@@ -1,4 +1,10 @@
 -- A feed refusal by refusal, and what it is behind each check. Assumes nothing.
+use Rattle.book.specs.Opened.{opened_of}
+use Rattle.book_feed.specs.declared.FeedError.{FeedError}
+use Rattle.book_feed.specs.declared.FeedError.TheVariants as FeedError
+use Rattle.book.specs.declared.OpenError.{OpenError}
+use Rattle.book.specs.declared.OpenError.TheVariants.{WrongLength, NotTable, NotBook}
+use Rattle.std.specs.Prelude.{Option, Result, Ok, Err}
 use Prim.Native.Nat.{ℕ, ◌≤◌, ◌<◌}
 use mathlib.Core.Path.{◌≡◌, refl, sym, ap, ◌∙◌, subst}
 use borrow.Author.Tests.{le-ltb, lt-ltb}
@@ -29,20 +35,15 @@ use Rattle.book.specs.Calls.{sized, open_lots_in, fed, feed_on, feed_bytes}
 use Rattle.book_header.specs.Size.{SizeOk}
 use Rattle.book_write.specs.Write.{BookPassed}
 use Rattle.book_feed_input.specs.Bars.{BarAs}
-use Rattle.book_feed_input.specs.declared.BarRead.{BarRead}
 use Rattle.book_feed_step.specs.Steps.{in_time, taken}
 use Rattle.book_feed.specs.Feed.{feed_of, FeedAs}
-use Rattle.book_feed.specs.Steps.{book_opened, opened_of, OpenedOk, TableOpenedAs, BookOpenedAs, bar_do, signals_do, numbers_do}
-use Rattle.book_feed.specs.declared.Feed.{Feed}
-use Rattle.book_feed.specs.declared.Feed.TheVariants.{Done, Late, Full}
-use Rattle.book_feed.specs.declared.Opened.{Opened}
-use Rattle.book_feed.specs.declared.Opened.TheVariants.{Bars, WrongLength, NotTable, NotBook}
+use Rattle.book_feed.specs.Steps.{book_opened, OpenedOk, TableOpenedAs, BookOpenedAs, bar_do, signals_do, numbers_do}
 
 -- a refusal leaves the bytes as they were
-pub refused : {n : ℕ} {a : Answer (Accepted (List ℕ))} {b : List ℕ} {r : Feed} → feed_of b r ≡ Refused n → Refused n ≡ a → FeedAs a b b r
+pub refused : {n : ℕ} {a : Answer (Accepted (List ℕ))} {b : List ℕ} {r : Result Report FeedError} → feed_of b r ≡ Refused n → Refused n ≡ a → FeedAs a b b r
 refused {b = b} e f = record { is = e ∙ f; bytes = ap (feed_bytes b) f }
 
-pub feed_as : {b m : List ℕ} {a x : Answer (Accepted (List ℕ))} {r : Feed} → x ≡ a → FeedAs x b m r → FeedAs a b m r
+pub feed_as : {b m : List ℕ} {a x : Answer (Accepted (List ℕ))} {r : Result Report FeedError} → x ≡ a → FeedAs x b m r → FeedAs a b m r
 feed_as {b} {m} {r = r} e w = subst (λ a. FeedAs a b m r) e w
 
 -- two tests, and what follows behind both
@@ -55,39 +56,39 @@ behind m n true true x k = refl
 -- ---- 8, 9, 10
 
 module _ {t b : List ℕ} where
-  pub table_length_lem : Refused 8 ≡ sized t b → TableOpenedAs t b WrongLength
+  pub table_length_lem : Refused 8 ≡ sized t b → TableOpenedAs t b (Err WrongLength)
   table_length_lem e = record { is = rw (← e) refl; ok = tt }
 
   module _ {c : ℕ} (e : Got c ≡ sized t b) where
-    pub table_not : is_table t ≡ false → TableOpenedAs t b NotTable
+    pub table_not : is_table t ≡ false → TableOpenedAs t b (Err NotTable)
     table_not f = record { is = rw (← e, f) refl; ok = tt }
 
-    pub table_is : is_table t ≡ true → SizeOk b c → TableOpenedAs t b (Bars c)
+    pub table_is : is_table t ≡ true → SizeOk b c → TableOpenedAs t b (Ok c)
     table_is f k = record { is = rw (← e, f) refl; ok = (f, k) }
 
-  pub book-refused : {n : ℕ} {r : Opened} → opened_of r ≡ Refused n → OpenedOk (λ c. (is_table t ≡ true) × BookPassed b c) r → TableOpenedAs t b r → BookOpenedAs t b r
+  pub book-refused : {n : ℕ} {r : Result ℕ OpenError} → opened_of r ≡ Refused n → OpenedOk (λ c. (is_table t ≡ true) × BookPassed b c) r → TableOpenedAs t b r → BookOpenedAs t b r
   book-refused e k w = record { is = e ∙ refused_then (λ c. must 10 (header_ok c b) >>= λ _. Got c) (sym e ∙ w.is); ok = k }
 
-  module _ {c : ℕ} (w : TableOpenedAs t b (Bars c)) where
-    pub book-not : header_ok c b ≡ false → BookOpenedAs t b NotBook
+  module _ {c : ℕ} (w : TableOpenedAs t b (Ok c)) where
+    pub book-not : header_ok c b ≡ false → BookOpenedAs t b (Err NotBook)
     book-not g = record { is = rw (← w.is, g) refl; ok = tt }
 
-    pub book-is : header_ok c b ≡ true → BookOpenedAs t b (Bars c)
+    pub book-is : header_ok c b ≡ true → BookOpenedAs t b (Ok c)
     book-is g = record { is = rw (← w.is, g) refl; ok = (w.ok.0, record { size = w.ok.1; header = g }) }
 
 -- ---- 11, then the rest
 
 -- a bar is read of the numbers as they were given
-pub told_bar : {id instant offset : ℤ} {price : Float} {r : BarRead} → SFits w64 id → SFits w64 instant → SFits w64 offset
+pub told_bar : {id instant offset : ℤ} {price : Float} {r : Option Bar} → SFits w64 id → SFits w64 instant → SFits w64 offset
     → BarAs (back w64 id) (back w64 instant) (back w64 offset) price r → BarAs id instant offset price r
 told_bar f g h w = rw (to_z-of_z f, to_z-of_z g, to_z-of_z h) at w
 
 module _ (t b : List ℕ) (c : ℕ) (i : Input) where
-  pub bar-refused : {r : Feed} → feed_of b r ≡ Refused 11 → Refused 11 ≡ bar_of i.id i.instant i.offset i.price → FeedAs (numbers_do t c i b) b b r
+  pub bar-refused : {r : Result Report FeedError} → feed_of b r ≡ Refused 11 → Refused 11 ≡ bar_of i.id i.instant i.offset i.price → FeedAs (numbers_do t c i b) b b r
   unfolding numbers_do
   bar-refused e h = refused e (refused_then (λ bar. signals_do t c bar i.signals b) h)
 
-  pub bar-read : {bar : Bar} {m : List ℕ} {r : Feed} → Got bar ≡ bar_of i.id i.instant i.offset i.price
+  pub bar-read : {bar : Bar} {m : List ℕ} {r : Result Report FeedError} → Got bar ≡ bar_of i.id i.instant i.offset i.price
       → FeedAs (signals_do t c bar i.signals b) b m r → FeedAs (numbers_do t c i b) b m r
   unfolding numbers_do
   bar-read h w = feed_as (got_then (λ bar. signals_do t c bar i.signals b) h) w
@@ -146,15 +147,15 @@ module _ (t b : List ℕ) where
 
   module _ (input : Answer Input) where
     -- refused before anything reaches it
-    pub feed_unopened : {n : ℕ} {o : Opened} {r : Feed} → feed_of b r ≡ Refused n → opened_of o ≡ Refused n → BookOpenedAs t b o → FeedAs (feed_on t b input) b b r
+    pub feed_unopened : {n : ℕ} {o : Result ℕ OpenError} {r : Result Report FeedError} → feed_of b r ≡ Refused n → opened_of o ≡ Refused n → BookOpenedAs t b o → FeedAs (feed_on t b input) b b r
     feed_unopened f e w = refused f (refused_then (λ c. input >>= λ i. numbers_do t c i b) (sym e ∙ w.is) ∙ sym (steps input))
 
     -- what reaches it decides
-    pub feed_reached : {c : ℕ} {m : List ℕ} {r : Feed} → BookOpenedAs t b (Bars c) → FeedAs (input >>= λ i. numbers_do t c i b) b m r → FeedAs (feed_on t b input) b m r
+    pub feed_reached : {c : ℕ} {m : List ℕ} {r : Result Report FeedError} → BookOpenedAs t b (Ok c) → FeedAs (input >>= λ i. numbers_do t c i b) b m r → FeedAs (feed_on t b input) b m r
     feed_reached w k = feed_as (got_then (λ c. input >>= λ i. numbers_do t c i b) w.is ∙ sym (steps input)) k
 
 -- the four numbers are those that were given
-pub told_numbers : (t b : List ℕ) (c : ℕ) (i : Input) {m : List ℕ} {r : Feed} → SFits w64 i.id → SFits w64 i.instant → SFits w64 i.offset
+pub told_numbers : (t b : List ℕ) (c : ℕ) (i : Input) {m : List ℕ} {r : Result Report FeedError} → SFits w64 i.id → SFits w64 i.instant → SFits w64 i.offset
     → FeedAs (numbers_do t c (record { id = back w64 i.id; instant = back w64 i.instant; offset = back w64 i.offset; price = i.price; signals = i.signals }) b) b m r
     → FeedAs (numbers_do t c i b) b m r
 told_numbers t b c i f g h w = rw (to_z-of_z f, to_z-of_z g, to_z-of_z h) at w
@@ -162,11 +163,11 @@ told_numbers t b c i f g h w = rw (to_z-of_z f, to_z-of_z g, to_z-of_z h) at w
 -- ---- the signals' refusals
 
 module _ (t b : List ℕ) (c : ℕ) (bar : Bar) (signals : List ℕ) where
-  pub signals-refused : {n : ℕ} {r : Feed} → feed_of b r ≡ Refused n → Refused n ≡ read_signals signals → FeedAs (signals_do t c bar signals b) b b r
+  pub signals-refused : {n : ℕ} {r : Result Report FeedError} → feed_of b r ≡ Refused n → Refused n ≡ read_signals signals → FeedAs (signals_do t c bar signals b) b b r
   unfolding signals_do
   signals-refused e f = refused e (refused_then (λ ls. bar_do t c bar ls b) f)
 
-  pub signals-read : {ls : List Line} {m : List ℕ} {r : Feed} → Got ls ≡ read_signals signals → FeedAs (bar_do t c bar ls b) b m r
+  pub signals-read : {ls : List Line} {m : List ℕ} {r : Result Report FeedError} → Got ls ≡ read_signals signals → FeedAs (bar_do t c bar ls b) b m r
       → FeedAs (signals_do t c bar signals b) b m r
   unfolding signals_do
   signals-read e w = feed_as (got_then (λ ls. bar_do t c bar ls b) e) w
@@ -174,15 +175,15 @@ module _ (t b : List ℕ) (c : ℕ) (bar : Bar) (signals : List ℕ) where
 -- ---- 13, 14
 
 module _ (t b : List ℕ) (c : ℕ) (bar : Bar) (ls : List Line) where
-  pub bar_late : false ≡ in_time bar b → FeedAs (bar_do t c bar ls b) b b Late
+  pub bar_late : false ≡ in_time bar b → FeedAs (bar_do t c bar ls b) b b (Err FeedError.Late)
   unfolding bar_do
   bar_late e = refused refl (rw (← e) refl)
 
   module _ (e : true ≡ in_time bar b) where
-    pub bar-full : c ≤ u32 b 0 → FeedAs (bar_do t c bar ls b) b b Full
+    pub bar-full : c ≤ u32 b 0 → FeedAs (bar_do t c bar ls b) b b (Err FeedError.Full)
     unfolding bar_do
     bar-full h = refused refl (rw (← e, le-ltb (u32 b 0) c h) refl)
 
-    pub bar-done : {m : List ℕ} {r : Report} → u32 b 0 < c → record { after = m; report = r } ≡ taken t c bar ls b → FeedAs (bar_do t c bar ls b) b m (Done r)
+    pub bar-done : {m : List ℕ} {r : Report} → u32 b 0 < c → record { after = m; report = r } ≡ taken t c bar ls b → FeedAs (bar_do t c bar ls b) b m (Ok r)
     unfolding bar_do
     bar-done h f = rw (← e, lt-ltb (u32 b 0) c h) (record { is = ap Got f; bytes = ap (λ a. a.after) f })

@@ -1,5 +1,7 @@
 -- A feed in steps, as the code goes. Between them a feed of another kind puts its own checks. Assumes nothing.
-use Rattle.std.specs.Prelude.{ℕ, true, List, ◌≡◌, ltb}
+use Rattle.book.specs.declared.OpenError.{OpenError}
+use Rattle.book.specs.Opened.{opened_of}
+use Rattle.std.specs.Prelude.{ℕ, true, List, ◌≡◌, ltb, Result, Ok, Err}
 use Rattle.le.specs.Field.{u32}
 use Rattle.text.specs.Answer.{Answer, Refused, Got, ◌>>=◌, must}
 use Rattle.bar.specs.Bar.{bar_of}
@@ -12,8 +14,6 @@ use Rattle.book.specs.Calls.{sized}
 use Rattle.book_header.specs.Size.{SizeOk}
 use Rattle.book_write.specs.Write.{BookPassed}
 use Rattle.book_feed_step.specs.Steps.{in_time, taken}
-use Rattle.book_feed.specs.declared.Opened.{Opened}
-use Rattle.book_feed.specs.declared.Opened.TheVariants.{Bars, WrongLength, NotTable, NotBook}
 
 -- ---- before the bar
 
@@ -25,24 +25,16 @@ table_opened t b = sized t b >>= λ c. must 9 (is_table t) >>= λ _. Got c
 abbrev pub book_opened : List ℕ → List ℕ → Answer ℕ
 book_opened t b = table_opened t b >>= λ c. must 10 (header_ok c b) >>= λ _. Got c
 
-abbrev pub opened_of : Opened → Answer ℕ
-opened_of (Bars c) = Got c
-opened_of WrongLength = Refused 8
-opened_of NotTable = Refused 9
-opened_of NotBook = Refused 10
-
 -- what is known of the room c of a book that was opened
-abbrev pub OpenedOk : (ℕ → Type 0) → Opened → Type 0
-OpenedOk P (Bars c) = P c
-OpenedOk P WrongLength = Unit {0}
-OpenedOk P NotTable = Unit {0}
-OpenedOk P NotBook = Unit {0}
+abbrev pub OpenedOk : (ℕ → Type 0) → Result ℕ OpenError → Type 0
+OpenedOk P (Ok c) = P c
+OpenedOk P (Err e) = Unit {0}
 
-pub record TableOpenedAs (t b : List ℕ) (r : Opened) : Type 0 where
+pub record TableOpenedAs (t b : List ℕ) (r : Result ℕ OpenError) : Type 0 where
   pub is : opened_of r ≡ table_opened t b
   pub ok : OpenedOk (λ c. (is_table t ≡ true) × SizeOk b c) r
 
-pub record BookOpenedAs (t b : List ℕ) (r : Opened) : Type 0 where
+pub record BookOpenedAs (t b : List ℕ) (r : Result ℕ OpenError) : Type 0 where
   pub is : opened_of r ≡ book_opened t b
   pub ok : OpenedOk (λ c. (is_table t ≡ true) × BookPassed b c) r
 

@@ -1,5 +1,5 @@
 -- The bar of four numbers, test by test. Assumes nothing.
-use Prim.Native.Nat.{ℕ}
+use Rattle.std.specs.Prelude.{Some, None}
 use native.Mathlib.Omega.{arith}
 use mathlib.Core.Path.{◌≡◌, refl, sym, ap₂, ◌∙◌, subst}
 use mathlib.Core.Bool.{Bool, true, false, ◌&&◌, and-eq-true_iff, false≢true}
@@ -7,24 +7,14 @@ use lib.Dec.{T, leb}
 use lib.IntN.{ℤ, pos, negsuc, nat_abs}
 use lib.Ieee.{Float}
 use lib.Ieee.Scale.{finite}
-use lib.Signed.{le_z, non_neg}
+use lib.Signed.{non_neg}
 use borrow.Author.Tests.{leb-true}
 use mir.Syntax.{w32, w64}
 use mir.Val.{Fits, SFits}
 use mir.Facts.{to_z-of_z}
 use Rattle.le.proofs.Signs.{back}
-use Rattle.bar.specs.Bar.{last_id, between, id_ok, instant_ok, offset_ok, bar_of}
-use Rattle.book_feed_input.specs.declared.BarRead.TheVariants.{In, Outside}
+use Rattle.bar.specs.Bar.{last_id, id_ok, instant_ok, offset_ok, bar_of}
 use Rattle.book_feed_input.specs.Bars.{BarAs}
-
--- ---- `within`
-
-module _ {lo hi z : ℤ} (l : SFits w64 lo) (h : SFits w64 hi) (f : SFits w64 z) where
-  pub from_low : le_z (back w64 lo) (back w64 z) ≡ true → le_z (back w64 z) (back w64 hi) ≡ between lo hi z
-  from_low e = rw (to_z-of_z f, to_z-of_z h) (ap₂ ◌&&◌ (sym (rw (to_z-of_z l, to_z-of_z f) at e)) refl)
-
-  pub below-low : le_z (back w64 lo) (back w64 z) ≡ false → false ≡ between lo hi z
-  below-low e = ap₂ ◌&&◌ (sym (rw (to_z-of_z l, to_z-of_z f) at e)) refl
 
 -- ---- the casts
 
@@ -36,28 +26,26 @@ id_in : (z : ℤ) → true ≡ id_ok z → T (non_neg z) × Fits w32 (nat_abs z)
 id_in (pos n) e = let h = leb-true n last_id ((and-eq-true_iff (leb 0 n) (leb n last_id)).0 (sym e)).1 in (tt, record { fits = omega arith })
 id_in (negsuc n) e = absurd (false≢true (sym e))
 
-module _ {z : ℤ} (f : SFits w64 z) where
-  pub offset_fits : true ≡ offset_ok z → SFits w32 (back w64 z)
-  offset_fits e = subst (SFits w32) (sym (to_z-of_z f)) (offset_in z e)
-
-  pub id_fits : true ≡ id_ok z → T (non_neg (back w64 z)) × Fits w32 (nat_abs (back w64 z))
-  id_fits e = subst (λ (y : ℤ). T (non_neg y) × Fits w32 (nat_abs y)) (sym (to_z-of_z f)) (id_in z e)
-
-  pub offset_back : true ≡ offset_ok z → back w32 (back w64 z) ≡ z
-  offset_back e = to_z-of_z (offset_fits e) ∙ to_z-of_z f
-
 -- ---- the answers
 
-module _ {id instant offset : ℤ} {price : Float} where
-  -- a test that failed
-  pub outside : {a b c d : Bool} → a ≡ id_ok id → b ≡ instant_ok instant → c ≡ offset_ok offset → d ≡ finite price → (a && b && c && d) ≡ false
-      → BarAs id instant offset price Outside
+-- the tests passed, or one failed
+module _ (id instant offset : ℤ) (price : Float) {t : Bool} (told : t ≡ (id_ok id && instant_ok instant && offset_ok offset && finite price)) where
+  pub outside : t ≡ false → BarAs id instant offset price None
   unfolding bar_of
-  outside p q r s e = record { is = rw (← p, ← q, ← r, ← s, e) refl; ok = tt }
+  outside e = record { is = rw (← told, e) refl; ok = tt }
 
-  -- all passed
-  pub inside : {n : ℕ} {y z : ℤ} → n ≡ nat_abs id → y ≡ instant → z ≡ offset
-      → true ≡ id_ok id → true ≡ instant_ok instant → true ≡ offset_ok offset → true ≡ finite price
-      → BarAs id instant offset price (In (record { id = n; time = record { instant = record { 0 = y }; offset = z }; price = price }))
-  unfolding bar_of
-  inside i j k p q r s = rw (i, j, k) (record { is = rw (← p, ← q, ← r, ← s) refl; ok = (sym (ap₂ ◌&&◌ q r), sym s) })
+  module _ (e : t ≡ true) where
+    ranges : (id_ok id ≡ true) × (instant_ok instant ≡ true) × (offset_ok offset ≡ true) × (finite price ≡ true)
+    ranges =
+        let i = (and-eq-true_iff (id_ok id && instant_ok instant && offset_ok offset) (finite price)).0 (sym told ∙ e) in
+        let j = (and-eq-true_iff (id_ok id && instant_ok instant) (offset_ok offset)).0 i.0 in
+        let k = (and-eq-true_iff (id_ok id) (instant_ok instant)).0 j.0 in
+        (k.0, k.1, j.1, i.1)
+
+    pub inside : SFits w64 id → SFits w64 instant → SFits w64 offset
+        → BarAs id instant offset price (Some (record { id = nat_abs (back w64 id); time = record { instant = record { 0 = back w64 instant }; offset = back w32 (back w64 offset) }; price = price }))
+    unfolding bar_of
+    inside f g h =
+        let small : SFits w32 (back w64 offset) = subst (SFits w32) (sym (to_z-of_z h)) (offset_in offset (sym ranges.2)) in
+        rw (to_z-of_z f, to_z-of_z g, to_z-of_z small, to_z-of_z h)
+        (record { is = rw (← told, e) refl; ok = (ap₂ ◌&&◌ ranges.1 ranges.2, ranges.3) })

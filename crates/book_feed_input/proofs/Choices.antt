@@ -1,4 +1,5 @@
 -- The choice that an event of an accepted table gives. Assumes nothing.
+use Rattle.std.specs.Prelude.{Option, Some}
 use Prim.Native.Nat.{ℕ, ◌<◌, ◌≤◌}
 use mathlib.Core.Path.{◌≡◌, sym, ap, ◌∙◌, subst}
 use mathlib.Core.List.{List}
@@ -12,13 +13,11 @@ use Rattle.table.specs.Table.{event_ok, sheet_of, event_of}
 use Rattle.table.specs.Read.{EventAt}
 use Rattle.table.specs.declared.Places.{Places}
 use Rattle.table.specs.declared.EventRow.{EventRow}
-use Rattle.table_match.specs.First.{match_of, Below}
-use Rattle.table_match.specs.declared.Match.{Match}
-use Rattle.table_match.specs.declared.Match.TheVariants.{Event}
+use Rattle.table_match.specs.First.{Below}
 use Rattle.table_match.proofs.Sound.{Accepted, event_ok_lem, event_next}
 
 -- a match that is an event is one of the table's
-pub below : {n i : ℕ} {m : Match} → Below n m → m ≡ Event i → i < n
+pub below : {n i : ℕ} {m : (Option ℕ)} → Below n m → m ≡ Some i → i < n
 below b e = subst (Below _) e b
 
 module _ {t : List ℕ} {p : Places} (a : Accepted t p) {l : List ℕ} (f : l ≡ between t p.events p.clauses) {i : ℕ} (h : i < (counts_in t).events) {e : EventRow} (r : EventAt l i e) where
@@ -27,6 +26,6 @@ module _ {t : List ℕ} {p : Places} (a : Accepted t p) {l : List ℕ} (f : l �
   unfolding event_ok
   operate-most = leb-true _ _ (fact _ (event_ok_lem a f h r) 1)
 
-  pub choice_is : {m : Match} → m ≡ Event i → record { operate = e.operate; event = i; lots = lots_in e.kind } ≡ choice_of (sheet_of (parts_in t)).events (match_of m)
+  pub choice_is : {m : (Option ℕ)} → m ≡ Some i → record { operate = e.operate; event = i; lots = lots_in e.kind } ≡ choice_of (sheet_of (parts_in t)).events (m)
   unfolding event_of
-  choice_is q = sym (ap (λ (x : Match). choice_of (sheet_of (parts_in t)).events (match_of x)) q ∙ ap (choice_at i) (next-at (sheet_of (parts_in t)).events i (event_next a f h r)))
+  choice_is q = sym (ap (λ (x : Option ℕ). choice_of (sheet_of (parts_in t)).events (x)) q ∙ ap (choice_at i) (next-at (sheet_of (parts_in t)).events i (event_next a f h r)))

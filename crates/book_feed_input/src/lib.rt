@@ -5,7 +5,7 @@ ghost use Rattle.std.specs.Prelude.{◌≡◌, true};
 ghost use Rattle.bar.specs.Bar.{between};
 ghost use Rattle.table.specs.Layout.{counts_in, parts_in};
 ghost use Rattle.table.specs.Table.{is_table, sheet_of};
-ghost use Rattle.table_match.specs.First.{match_of, Below};
+ghost use Rattle.table_match.specs.First.{Below};
 ghost use Rattle.position.specs.Step.{choice_of};
 ghost use Rattle.book_feed_input.specs.Bars.{BarAs};
 
@@ -14,7 +14,6 @@ use double::is_finite;
 use operate::HO;
 use position::Choice;
 use table::{event_at, read_places};
-use table_match::Match;
 
 // The ranges of the fields, as numbers of 64 bits.
 const LAST_ID: i64 = bar::LAST_ID as i64;
@@ -23,54 +22,41 @@ const LAST_OFFSET: i64 = bar::LAST_OFFSET as i64;
 
 const FIRST_OFFSET: i64 = -LAST_OFFSET;
 
-// A bar, or a field outside its range.
-#[derive(Clone, Copy)]
-pub enum BarRead {
-    In(Bar),
-    Outside,
-}
-
 // Whether z is in lo..hi, both included.
 fn within(lo: i64, hi: i64, z: i64) -> bool
     ensures { result ≡ between lo hi z }
 {
-    if lo <= z { z <= hi } else { false }
+    (lo..=hi).contains(&z)
 }
 
 // The bar of four numbers.
-pub fn read_bar(id: i64, instant: i64, offset: i64, price: f64) -> BarRead
+pub fn read_bar(id: i64, instant: i64, offset: i64, price: f64) -> Option<Bar>
     ensures { BarAs id instant offset price result }
 {
-    if !within(0, LAST_ID, id) {
-        return BarRead::Outside;
+    let fits = within(0, LAST_ID, id)
+        && within(0, LAST_INSTANT, instant)
+        && within(FIRST_OFFSET, LAST_OFFSET, offset)
+        && is_finite(price);
+    if !fits {
+        return None;
     }
-    if !within(0, LAST_INSTANT, instant) {
-        return BarRead::Outside;
-    }
-    if !within(FIRST_OFFSET, LAST_OFFSET, offset) {
-        return BarRead::Outside;
-    }
-    if !is_finite(price) {
-        return BarRead::Outside;
-    }
-    let time = Time {
-        instant: Instant(instant),
-        offset: offset as i32,
-    };
-    BarRead::In(Bar {
+    Some(Bar {
         id: id as u32,
-        time: time,
-        price: price,
+        time: Time {
+            instant: Instant(instant),
+            offset: offset as i32,
+        },
+        price,
     })
 }
 
 // The choice that a match over an accepted table stands for: HO where nothing matches.
-pub fn choose(t: &[u8], m: Match) -> Choice
+pub fn choose(t: &[u8], m: Option<usize>) -> Choice
     requires t_value { is_table t.now ≡ true }
     requires below { Below (counts_in t.now).events m }
-    ensures { result ≡ choice_of (sheet_of (parts_in t.now)).events (match_of m) }
+    ensures { result ≡ choice_of (sheet_of (parts_in t.now)).events m }
 {
-    let Match::Event(i) = m else {
+    let Some(i) = m else {
         return Choice {
             operate: HO,
             event: 0,
@@ -78,9 +64,7 @@ pub fn choose(t: &[u8], m: Match) -> Choice
         };
     };
     let p = read_places(t);
-    let from = p.events as usize;
-    let to = p.clauses as usize;
-    let e = event_at(&t[from..to], i);
+    let e = event_at(&t[p.events as usize..p.clauses as usize], i);
     Choice {
         operate: e.operate as u8,
         event: i as u16,

@@ -1,4 +1,5 @@
 -- The steps of an accepted bar: what is asked of its values, and what they say together. Assumes nothing.
+use Rattle.std.specs.Prelude.{Option, Some, None}
 use Prim.Native.Nat.{ℕ, ◌≤◌}
 use native.Mathlib.Omega.{arith}
 use mathlib.Core.Path.{◌≡◌, refl, sym, ap, ap₂, ◌∙◌}
@@ -13,6 +14,7 @@ use lib.Signed.{lt_z}
 use mir.Syntax.{w64}
 use mir.Val.{SFits}
 use mir.Facts.{to_z-of_z}
+use Rattle.position.specs.declared.LastEvent.{LastEvent}
 use Rattle.le.specs.Field.{u32, i64}
 use Rattle.le.proofs.Signs.{back}
 use Rattle.operate.specs.Operate.{LO, SO}
@@ -25,8 +27,6 @@ use Rattle.position.specs.Feed.{reported}
 use Rattle.position.specs.declared.Choice.{Choice}
 use Rattle.position.specs.declared.Head.{Head}
 use Rattle.position.specs.declared.Record.{Record}
-use Rattle.position.specs.declared.Reference.{Reference}
-use Rattle.position.specs.declared.Reference.TheVariants as Reference
 use Rattle.position.specs.declared.Report.{Report}
 use Rattle.table.specs.Layout.{settings_in, parts_in}
 use Rattle.table.specs.Table.{sheet_of}
@@ -34,28 +34,13 @@ use Rattle.table.specs.declared.Settings.{Settings}
 use Rattle.book.specs.Layout.{head_of}
 use Rattle.book.specs.Calls.{open_lots_in, fed}
 use Rattle.book_header.specs.Size.{priced}
-use Rattle.table_match.specs.First.{match_of, Below}
-use Rattle.table_match.specs.declared.Match.{Match}
-use Rattle.table_match.specs.declared.Match.TheVariants as Match
+use Rattle.table_match.specs.First.{Below}
 use Rattle.position_machine.specs.Update.{of_settings, wrote_of, going_of, TimesOk}
 use Rattle.position_machine.specs.declared.Update.{Update}
-use Rattle.position_machine.specs.declared.Wrote.{Wrote}
-use Rattle.position_machine.specs.declared.Wrote.TheVariants.{Nothing, One}
 use Rattle.position_machine.proofs.Going.{settings_only, update_bar, going-reference}
 use Rattle.book_write.specs.Write.{BookPassed, BarPassed, wrote_priced, Priced}
 use Rattle.book_write.proofs.Written.{counts}
 use Rattle.book_feed_step.specs.Steps.{decided_by, reported_by, in_time, taken}
-
--- ---- the bar's instant
-
-module _ (b : List ℕ) (bar : Bar) {hs : ℕ} (counted : hs ≡ u32 b 0) where
-  pub in_time-first : hs ≡ 0 → true ≡ in_time bar b
-  in_time-first e = rw (← counted, e) refl
-
-  pub in_time-next : {end : ℤ} → hs ≢ 0 → end ≡ i64 b 32 → SFits w64 end → SFits w64 bar.time.instant.0
-      → lt_z (back w64 end) (back w64 bar.time.instant.0) ≡ in_time bar b
-  unfolding head_of
-  in_time-next h e f g = rw (to_z-of_z f, to_z-of_z g, ← counted, ne_eqb hs 0 h, e) refl
 
 -- ---- the report
 
@@ -69,19 +54,19 @@ unfolding reported
 reported-is s ls g = ap (λ d. record { pos = g.head.pos; changed = g.head.changed; decision = d }) (decided-is s ls g.wrote)
 
 -- an event below one bound is below another
-pub below_more : {n k : ℕ} (m : Match) → Below n m → n ≤ k → Below k m
-below_more (Match.Event i) b h = omega arith
-below_more Match.Nothing b h = tt
+pub below_more : {n k : ℕ} (m : Option ℕ) → Below n m → n ≤ k → Below k m
+below_more (Some i) b h = omega arith
+below_more None b h = tt
 
 -- ---- what is asked of times and prices
 
 module _ {bar : Bar} (i : BarPassed bar) where
-  wrote-priced : (s : Sheet) (ch : Choice) (lots : ℕ) (h : Head) (w : Wrote) → wrote_of w ≡ (going s bar ch lots h).wrote → wrote_priced w ≡ true
-  wrote-priced s ch lots h Nothing e = refl
-  wrote-priced s ch lots h (One r) e = ap (λ (x : Bar). finite x.price) (update_bar s bar ch lots h r (sym e)) ∙ i.price
+  wrote-priced : (s : Sheet) (ch : Choice) (lots : ℕ) (h : Head) (w : Option Record) → wrote_of w ≡ (going s bar ch lots h).wrote → wrote_priced w ≡ true
+  wrote-priced s ch lots h None e = refl
+  wrote-priced s ch lots h (Some r) e = ap (λ (x : Bar). finite x.price) (update_bar s bar ch lots h r (sym e)) ∙ i.price
 
-  reference-priced : (x : Bool) (ch : Choice) (r : Reference) → priced r ≡ true
-      → priced (cond x (Reference.At (record { bar = bar; operate = ch.operate; event = ch.event })) r) ≡ true
+  reference-priced : (x : Bool) (ch : Choice) (r : Option LastEvent) → priced r ≡ true
+      → priced (cond x (Some (record { bar = bar; operate = ch.operate; event = ch.event })) r) ≡ true
   reference-priced true ch r e = i.price
   reference-priced false ch r e = e
 
@@ -103,10 +88,10 @@ module _ (t b : List ℕ) (c : ℕ) (bar : Bar) (ls : List Line) where
   abbrev sheet : Sheet
   sheet = sheet_of (parts_in t)
 
-  module _ (m : Match) (u : Update) {ch : Choice} {k : Settings} {lots : ℕ} {h : Head} where
+  module _ (m : Option ℕ) (u : Update) {ch : Choice} {k : Settings} {lots : ℕ} {h : Head} where
     pub taken_is : {after : List ℕ} {r : Report}
-        → match_of m ≡ first_match sheet.events ls → ch ≡ choice_of sheet.events (match_of m) → k ≡ settings_in t → lots ≡ open_lots_in b → h ≡ head_of b
-        → going_of u ≡ going (of_settings k) bar ch lots h → after ≡ fed c bar (going_of u) b → r ≡ reported_by (match_of m) (going_of u)
+        → m ≡ first_match sheet.events ls → ch ≡ choice_of sheet.events (m) → k ≡ settings_in t → lots ≡ open_lots_in b → h ≡ head_of b
+        → going_of u ≡ going (of_settings k) bar ch lots h → after ≡ fed c bar (going_of u) b → r ≡ reported_by (m) (going_of u)
         → record { after = after; report = r } ≡ taken t c bar ls b
     unfolding taken step_head choose
     taken_is em ec ek el eh eg ea er =

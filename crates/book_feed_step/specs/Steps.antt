@@ -1,7 +1,7 @@
 -- The step of a bar on a book. Assumes nothing.
-use Rattle.std.specs.Prelude.{ℕ, Bool, ◌||◌, List, [], ◌∷◌, ◌≡◌, eqb}
-use Rattle.std.proofs.Math.Option.{Option}
+use Rattle.std.specs.Prelude.{ℕ, Bool, ◌||◌, List, [], ◌∷◌, ◌≡◌, eqb, Option, Some}
 use Rattle.std.specs.Int.Signed.{lt_z}
+use Rattle.position.specs.declared.Description.{Description}
 use Rattle.le.specs.Field.{u32}
 use Rattle.bar.specs.declared.Bar.{Bar}
 use Rattle.event.specs.Signals.{Line}
@@ -9,21 +9,17 @@ use Rattle.event.specs.Match.{first_match}
 use Rattle.position.specs.Step.{Going, step_head, chosen_event}
 use Rattle.position.specs.Feed.{Accepted, reported}
 use Rattle.position.specs.declared.Record.{Record}
-use Rattle.position.specs.declared.Decision.{Decision}
-use Rattle.position.specs.declared.Decision.TheVariants.{By}
 use Rattle.position.specs.declared.Report.{Report}
 use Rattle.table.specs.Layout.{parts_in}
 use Rattle.table.specs.Table.{sheet_of}
-use Rattle.table_match.specs.First.{match_of}
-use Rattle.table_match.specs.declared.Match.{Match}
 use Rattle.book.specs.Layout.{head_of}
 use Rattle.book.specs.Calls.{open_lots_in, fed}
 
 -- ---- what decided a bar, by the event that matched and the records
 
-abbrev pub decided_by : Option ℕ → List Record → Decision
+abbrev pub decided_by : Option ℕ → List Record → Option Description
 decided_by m [] = chosen_event m
-decided_by m (r ∷ rs) = By r.description
+decided_by m (r ∷ rs) = Some r.description
 
 abbrev pub reported_by : Option ℕ → Going → Report
 reported_by m g = record { pos = g.head.pos; changed = g.head.changed; decision = decided_by m g.wrote }
@@ -42,5 +38,5 @@ taken t c bar ls b =
     record { after = fed c bar g b; report = reported s ls g }
 
 -- the same by a match m, whatever signals it is of: the book at exit, and what is said
-abbrev pub TakenBy : List ℕ → ℕ → Bar → Match → List ℕ → List ℕ → Report → Type 0
-TakenBy t c bar m b after r = (ls : List Line) → match_of m ≡ first_match (sheet_of (parts_in t)).events ls → record { after = after; report = r } ≡ taken t c bar ls b
+abbrev pub TakenBy : List ℕ → ℕ → Bar → Option ℕ → List ℕ → List ℕ → Report → Type 0
+TakenBy t c bar m b after r = (ls : List Line) → m ≡ first_match (sheet_of (parts_in t)).events ls → record { after = after; report = r } ≡ taken t c bar ls b

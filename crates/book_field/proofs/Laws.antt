@@ -1,28 +1,29 @@
 -- Fields written one behind another, and what the code of a field gives. Assumes nothing.
-use Prim.Native.Nat.{ℕ, zero, suc, ◌+◌, ◌≤◌}
+use Rattle.std.specs.Prelude.{Option, None, Some}
+use Rattle.std.specs.Option.{unwrap_or}
+use Prim.Native.Nat.{ℕ, ◌+◌, ◌≤◌}
 use native.Mathlib.Omega.{arith}
-use mathlib.Core.Path.{◌≡◌, ◌∙◌, refl, ap, subst}
-use mathlib.Core.Bool.{true, false, not, false≢true}
-use mathlib.Core.Logic.{◌≢◌}
+use mathlib.Core.Path.{◌≡◌, ◌∙◌, refl, sym, ap, subst}
+use mathlib.Core.Bool.{true, not, false≢true}
 use mathlib.Core.List.{List, ◌++◌}
-use lib.Ieee.{Float, nan, inf, fin, is_nan}
+use lib.Ieee.{Float, binary64, of_bits, div, nan, inf, fin, is_nan}
 use lib.Ieee.Scale.{finite}
 use lib.Dec.{T}
 use lib.IntN.{ℤ}
-use lib.Signed.{le_z}
 use lib.ListN.{length}
 use mir.Syntax.{w32}
 use mir.Facts.{to_z-of_z}
 use Rattle.le.specs.Le.{patch, le_bytes}
+use Rattle.le.specs.Real.{real_of}
 use Rattle.le.proofs.Signs.{back}
+use Rattle.le.proofs.Reals.{value-is, nan_is}
 use Rattle.text.specs.Read.{Put}
 use Rattle.text.proofs.Put.{put-patch, put-put}
 use Rattle.bar.specs.Time.{local_time}
-use Rattle.bar.specs.Bar.{between, time_ok, local_of}
-use Rattle.position.specs.declared.Pos.TheVariants.{Long}
+use Rattle.bar.specs.Bar.{time_ok, local_of}
 use Rattle.bar.specs.declared.Time.{Time}
 use Rattle.bar.specs.declared.LocalTime.{LocalTime}
-use Rattle.book.specs.Layout.{time_bytes, pos_at}
+use Rattle.book.specs.Layout.{time_bytes}
 use Rattle.book.proofs.Ranges.{time_in}
 
 -- ---- writing
@@ -49,18 +50,11 @@ not_nan (fin s m e) h = tt
 
 -- ---- reading
 
--- a code that is neither 0 nor 1
-pub long-is : (n : ℕ) → n ≢ 0 → n ≢ 1 → Long ≡ pos_at n
-long-is zero h k = absurd (h refl)
-long-is (suc zero) h k = absurd (k refl)
-long-is (suc (suc n)) h k = refl
-
--- a number between two bounds
-pub inside : {y z : ℤ} (lo hi : ℤ) → y ≡ z → le_z lo y ≡ true → le_z y hi ≡ between lo hi z
-inside {y} lo hi e h = subst (λ (x : ℤ). le_z y hi ≡ between lo hi x) e (rw h)
-
-pub below : {y z : ℤ} (lo hi : ℤ) → y ≡ z → le_z lo y ≡ false → false ≡ between lo hi z
-below lo hi e h = subst (λ (x : ℤ). false ≡ between lo hi x) e (rw h)
+-- a double by its bits, where what is no number is a NaN
+pub or_nan : (n : ℕ) (r : Option Float) → r ≡ real_of n → unwrap_or r nan ≡ of_bits binary64 n
+unfolding of_bits div
+or_nan n (Some x) e = value-is n (sym e)
+or_nan n None e = nan_is n (sym e)
 
 -- ---- times
 

@@ -1,7 +1,7 @@
 // Code only: the fields that a book's header, holds and records share: doubles, times and positions, read from bytes and written to them.
 #![tactic(auto)]
 
-ghost use Rattle.std.specs.Prelude.{◌≡◌, true, [], ◌∷◌, ◌+◌, ◌≤◌, length};
+ghost use Rattle.std.specs.Prelude.{◌≡◌, true, ◌+◌, ◌≤◌, length};
 ghost use Rattle.le.specs.Le.{patch};
 ghost use Rattle.le.specs.Field.{f64};
 ghost use Rattle.bar.specs.Bar.{instant_ok, offset_ok, time_ok, local_of};
@@ -9,7 +9,6 @@ ghost use Rattle.position.specs.State.{pos_code, pos_sign};
 ghost use Rattle.book.specs.Layout.{time_bytes, time_at, pos_at};
 
 use bar::{Instant, LAST_INSTANT, LAST_OFFSET, LocalTime, Time};
-use le::Real;
 use position::Pos;
 
 // The least offset.
@@ -20,10 +19,7 @@ pub fn double_at(b: &[u8], at: usize) -> f64
     requires { at + 8 ≤ length b.now }
     ensures { result ≡ f64 b.now at }
 {
-    match le::get_f64(b, at) {
-        Real::Value(x) => x,
-        Real::Nan => 0.0 / 0.0,
-    }
+    le::get_f64(b, at).unwrap_or(f64::NAN)
 }
 
 // The time whose instant starts at `at`, and its offset at `offset`.
@@ -31,9 +27,8 @@ pub fn time_at(b: &[u8], at: usize, offset: usize) -> Time
     requires { (at + 8 ≤ length b.now) × (offset + 4 ≤ length b.now) }
     ensures { result ≡ time_at b.now at offset }
 {
-    let instant = Instant(le::get_i64(b, at));
     Time {
-        instant,
+        instant: Instant(le::get_i64(b, at)),
         offset: le::get_i32(b, offset),
     }
 }
@@ -43,29 +38,16 @@ pub fn put_time(b: &mut [u8], at: usize, t: Time)
     requires { at + 12 ≤ length b.old }
     ensures { b.new ≡ patch b.old at (time_bytes t) }
 {
-    let instant = t.instant;
-    le::put_i64(b, at, instant.0);
+    le::put_i64(b, at, t.instant.0);
     le::put_i32(b, at + 8, t.offset);
 }
 
-// Writes two bytes from `at` on.
-pub fn put_two(b: &mut [u8], at: usize, w: u8, x: u8)
-    requires { at + 2 ≤ length b.old }
-    ensures { b.new ≡ patch b.old at (w ∷ x ∷ []) }
+// Writes some bytes from `at` on.
+pub fn put_bytes(b: &mut [u8], at: usize, bytes: &[u8])
+    requires { at + length bytes.now ≤ length b.old }
+    ensures { b.new ≡ patch b.old at bytes.now }
 {
-    b[at] = w;
-    b[at + 1] = x;
-}
-
-// Writes four bytes from `at` on.
-pub fn put_four(b: &mut [u8], at: usize, w: u8, x: u8, y: u8, z: u8)
-    requires { at + 4 ≤ length b.old }
-    ensures { b.new ≡ patch b.old at (w ∷ x ∷ y ∷ z ∷ []) }
-{
-    b[at] = w;
-    b[at + 1] = x;
-    b[at + 2] = y;
-    b[at + 3] = z;
+    b[at..at + bytes.len()].copy_from_slice(bytes);
 }
 
 // The position of a code: 0 Short, 1 Flat, 2 Long.
@@ -105,30 +87,21 @@ pub fn pos_sign(p: Pos) -> i32
 fn instant_ok(z: i64) -> bool
     ensures { result ≡ instant_ok z }
 {
-    if 0 <= z { z <= LAST_INSTANT } else { false }
+    (0..=LAST_INSTANT).contains(&z)
 }
 
 // Whether an offset is in its range.
 fn offset_ok(z: i32) -> bool
     ensures { result ≡ offset_ok z }
 {
-    if FIRST_OFFSET <= z {
-        z <= LAST_OFFSET
-    } else {
-        false
-    }
+    (FIRST_OFFSET..=LAST_OFFSET).contains(&z)
 }
 
 // Whether a time's instant and its offset are each in their range.
 pub fn time_ok(t: Time) -> bool
     ensures { result ≡ time_ok t }
 {
-    let instant = t.instant;
-    if instant_ok(instant.0) {
-        offset_ok(t.offset)
-    } else {
-        false
-    }
+    instant_ok(t.instant.0) && offset_ok(t.offset)
 }
 
 // The local time of a time in range.
@@ -136,7 +109,5 @@ pub fn local_of(t: Time) -> LocalTime
     requires { time_ok t ≡ true }
     ensures { result ≡ local_of t }
 {
-    let instant = t.instant;
-    let offset = t.offset;
-    instant.local(offset)
+    t.instant.local(t.offset)
 }

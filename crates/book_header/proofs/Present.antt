@@ -1,16 +1,19 @@
--- A presence byte that is not 0: what it stands for is there. Assumes nothing.
+-- A presence byte: what it stands for is there, where it is not 0. Assumes nothing.
 use Prim.Native.Nat.{ℕ, zero, suc}
+use native.Mathlib.Omega.{arith}
+use mathlib.Core.Bool.{not}
 use mathlib.Core.Path.{◌≡◌, refl}
+use lib.Dec.{eqb}
+use borrow.Author.Tests.{ne_eqb}
+use Rattle.std.specs.Bool.{then_some}
 use Rattle.bar.specs.declared.Time.{Time}
 use Rattle.position.specs.declared.LastEvent.{LastEvent}
-use Rattle.position.specs.declared.Open.TheVariants as Open
-use Rattle.position.specs.declared.Reference.TheVariants as Reference
 use Rattle.book.specs.Layout.{open_at, reference_at}
 
-pub open_present : (n : ℕ) (t : Time) → (n ≡ 0 → ⊥) → Open.At t ≡ open_at n t
-open_present zero t e = absurd (e refl)
-open_present (suc n) t e = refl
+pub open_present : (n : ℕ) (t : Time) → then_some (not (eqb n 0)) t ≡ open_at n t
+open_present zero t = refl
+open_present (suc n) t = rw (ne_eqb (suc n) 0 (λ e. omega arith)) refl
 
-pub reference_present : (n : ℕ) (r : LastEvent) → (n ≡ 0 → ⊥) → Reference.At r ≡ reference_at n r
-reference_present zero r e = absurd (e refl)
-reference_present (suc n) r e = refl
+pub reference_present : (n : ℕ) (r : LastEvent) → then_some (not (eqb n 0)) r ≡ reference_at n r
+reference_present zero r = refl
+reference_present (suc n) r = rw (ne_eqb (suc n) 0 (λ e. omega arith)) refl

@@ -1,4 +1,5 @@
 -- What a book that passed the header check has: its counts, opens in range, a reference and a last hold that can be written. Assumes nothing.
+use Rattle.std.specs.Prelude.{None}
 use Prim.Native.Nat.{ℕ, zero, suc, ◌-◌, ◌≤◌}
 use native.Mathlib.Omega.{arith}
 use mathlib.Core.Bool.{Bool, true, false, cond, and-eq-true_iff, false≢true}
@@ -9,12 +10,12 @@ use lib.Dec.{eqb}
 use lib.Ieee.Scale.{finite}
 use lib.ListN.{drop, take-append-drop}
 use borrow.Author.Tests.{leb-true, eqb-true, ne_eqb}
+use Rattle.double.specs.declared.Yield.TheVariants.{Absent}
 use Rattle.le.specs.Le.{part}
 use Rattle.le.specs.Field.{u8, u32, f64}
 use Rattle.text.specs.Text.{same}
 use Rattle.text.proofs.Same.{same_eq}
 use Rattle.text.proofs.Conditions.{fact}
-use Rattle.double.specs.declared.Yield.TheVariants.{Absent}
 use Rattle.position.specs.State.{no_time, fresh_head, open_in_range}
 use Rattle.position.specs.declared.Head.{Head}
 use Rattle.position.specs.declared.LastEvent.{LastEvent}

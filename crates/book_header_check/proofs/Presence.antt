@@ -1,4 +1,4 @@
--- An open and a reference by their presence bytes. Assumes nothing.
+-- What is asked of a reference that is present. Assumes nothing.
 use Prim.Native.Nat.{ℕ, zero, suc}
 use mathlib.Core.Bool.{Bool, true, false, ◌&&◌, ◌||◌}
 use mathlib.Core.List.{List, [], ◌∷◌}
@@ -16,20 +16,6 @@ use Rattle.book.specs.Layout.{time_at}
 use Rattle.book.specs.Check.{open_ok, reference_ok}
 use Rattle.text.proofs.Tested.{broken}
 
--- ---- a byte that is neither 0 nor 1
-
-pub open_other : (b : List ℕ) (p at offset : ℕ) → p ≢ 0 → p ≢ 1 → false ≡ open_ok b p at offset
-open_other b zero at offset h k = absurd (h refl)
-open_other b (suc zero) at offset h k = absurd (k refl)
-open_other b (suc (suc n)) at offset h k = refl
-
-pub reference-other : (b : List ℕ) (p : ℕ) → p ≢ 0 → p ≢ 1 → false ≡ reference_ok b p
-reference-other b zero h k = absurd (h refl)
-reference-other b (suc zero) h k = absurd (k refl)
-reference-other b (suc (suc n)) h k = refl
-
--- ---- a reference that is present
-
 five : (p q r s t : Bool) → all_of (p ∷ q ∷ r ∷ s ∷ t ∷ []) ≡ (p && q && r && s && t)
 unfolding all_of
 five false q r s t = refl
@@ -46,7 +32,3 @@ present_asked b =
 
 pub present_is : (b : List ℕ) → all_of (present_asked b) ≡ reference_ok b 1
 present_is b = five _ _ _ _ _
-
--- number i of it fails
-pub present_fails : (b : List ℕ) (i : ℕ) → get_or (present_asked b) i true ≡ false → false ≡ reference_ok b 1
-present_fails b i h = broken (present_asked b) i h ∙ present_is b

@@ -4,7 +4,7 @@ use native.Mathlib.Omega.{arith}
 use mathlib.Core.Bool.{true}
 use mathlib.Core.List.{List}
 use mathlib.Core.Logic.{◌≢◌}
-use mathlib.Core.Path.{◌≡◌, ◌∙◌}
+use mathlib.Core.Path.{◌≡◌, ◌∙◌, ap}
 use lib.ListN.{take, drop}
 use borrow.Author.Tests.{leb-true}
 use Rattle.le.specs.Le.{part}
@@ -12,7 +12,7 @@ use Rattle.le.specs.Field.{u32}
 use Rattle.le.proofs.Laws.{part_lent}
 use Rattle.text.proofs.Conditions.{fact}
 use Rattle.book.specs.Layout.{hold_place}
-use Rattle.book.specs.Check.{counts_ok}
+use Rattle.book.specs.Check.{counts_ok, last_ok}
 use Rattle.book_header.specs.Size.{SizeOk}
 use Rattle.book_header_check.specs.Used.{Used}
 
@@ -24,5 +24,10 @@ used {b} {c} {hs} z e h k =
     record { counted = h; least = omega arith; room = omega arith }
 
 -- as it is lent
-pub slot : {b : List ℕ} {hs : ℕ} → Used b hs → take (96 + 32 * (hs - 1) + 32 - (96 + 32 * (hs - 1))) (drop (96 + 32 * (hs - 1)) b) ≡ part b (hold_place (u32 b 0 - 1)) 32
+slot : {b : List ℕ} {hs : ℕ} → Used b hs → take (96 + 32 * (hs - 1) + 32 - (96 + 32 * (hs - 1))) (drop (96 + 32 * (hs - 1)) b) ≡ part b (hold_place (u32 b 0 - 1)) 32
 slot {b} {hs} h = part_lent b (hold_place (hs - 1)) 32 ∙ rw h.counted
+
+-- the check of it
+pub last_slot : (b : List ℕ) (hs : ℕ) → Used b hs
+    → last_ok b (take (96 + 32 * (hs - 1) + 32 - (96 + 32 * (hs - 1))) (drop (96 + 32 * (hs - 1)) b)) ≡ last_ok b (part b (hold_place (u32 b 0 - 1)) 32)
+last_slot b hs h = ap (last_ok b) (slot h)

@@ -1,4 +1,7 @@
 -- The answers of fresh, save and restore. Assumes nothing.
+use Rattle.book.specs.declared.OpenError.TheVariants.{WrongLength}
+use Rattle.book.specs.declared.OpenError.{OpenError}
+use Rattle.std.specs.Prelude.{Option, Some, None, Result, Ok, Err}
 use Prim.Native.Nat.{ℕ, ◌+◌, ◌-◌, ◌*◌, ◌≤◌}
 use native.Mathlib.Omega.{arith}
 use mathlib.Core.Bool.{true}
@@ -21,24 +24,18 @@ use Rattle.position.specs.declared.Head.{Head}
 use Rattle.book.specs.Layout.{head_bytes, encode, fresh_book}
 use Rattle.book.specs.Calls.{sized_pair, fresh_do, save_do, restore_do}
 use Rattle.book.proofs.Lengths.{head-length, holds-written, records-written}
-use Rattle.book_header.specs.declared.Sized.{Sized}
-use Rattle.book_header.specs.declared.Sized.TheVariants.{Bars, Wrong}
 use Rattle.book_header.specs.Size.{SizeOk, sized_of, BarsOk, RoomOk, CapacityAs, SizedAs, priced}
-use Rattle.book_check.specs.declared.Checked.{Checked}
-use Rattle.book_check.specs.declared.Checked.TheVariants as Checked
 use Rattle.book_check.specs.Read.{checked_of, CheckedAs}
-use Rattle.book_store.specs.declared.Stored.{Stored}
-use Rattle.book_store.specs.declared.Stored.TheVariants.{Done, WrongLength, NotTable, NotBook}
 use Rattle.book_store.specs.Stored.{stored_of, StoredAs}
 use Rattle.book_store.specs.Copied.{copy_do}
 
 -- ---- done, and refused
 
 module _ {d : Answer (List ℕ)} (before : List ℕ) where
-  done : {after : List ℕ} → d ≡ Got after → StoredAs d before after Done
+  done : {after : List ℕ} → d ≡ Got after → StoredAs d before after (Ok tt)
   done e = record { is = sym e; bytes = rw e refl }
 
-  refused : {r : Stored} {n : ℕ} → d ≡ Refused n → stored_of before r ≡ Refused n → StoredAs d before before r
+  refused : {r : Result (Unit {0}) OpenError} {n : ℕ} → d ≡ Refused n → stored_of before r ≡ Refused n → StoredAs d before before r
   refused e f = record { is = f ∙ sym e; bytes = rw e refl }
 
 -- ---- `fresh`
@@ -69,15 +66,15 @@ pub fresh-priced : {h : Head} → h ≡ fresh_head → priced h.reference ≡ tr
 unfolding fresh_head
 fresh-priced e = ap (λ (h : Head). priced h.reference) e
 
-module _ {b : List ℕ} {r : Sized} (k : CapacityAs b r) where
+module _ {b : List ℕ} {r : Option ℕ} (k : CapacityAs b r) where
   fresh-is : fresh_do b ≡ (sized_of r >>= λ c. Got (fresh_book c))
   unfolding fresh_do
   fresh-is = rw (← k.is)
 
-  pub fresh_wrong : r ≡ Wrong → StoredAs (fresh_do b) b b WrongLength
+  pub fresh_wrong : r ≡ None → StoredAs (fresh_do b) b b (Err WrongLength)
   fresh_wrong e = refused b (fresh-is ∙ rw e) refl
 
-  module _ {c : ℕ} (e : r ≡ Bars c) where
+  module _ {c : ℕ} (e : r ≡ Some c) where
     pub fresh-size : SizeOk b c
     fresh-size = subst (BarsOk b) e k.ok
 
@@ -87,24 +84,21 @@ module _ {b : List ℕ} {r : Sized} (k : CapacityAs b r) where
         omega (arith, e, fresh-size.long)
 
     pub fresh-done : {clear after : List ℕ} {h : Head} → clear ≡ replicate (length b) 0 → h ≡ fresh_head → after ≡ patch clear 0 (head_bytes c 0 0 h)
-        → StoredAs (fresh_do b) b after Done
+        → StoredAs (fresh_do b) b after (Ok tt)
     fresh-done zero head put = done b (fresh-is ∙ rw e (ap Got (sym (put ∙ rw (zero, head, fresh-size.long) (fresh-bytes c)))))
 
 -- ---- `copy_book`
 
-module _ {t : List ℕ} {c : ℕ} {from : List ℕ} {r : Checked} (k : CheckedAs t c from r) (to : List ℕ) where
+module _ {t : List ℕ} {c : ℕ} {from : List ℕ} {r : Result (Unit {0}) OpenError} (k : CheckedAs t c from r) (to : List ℕ) where
   copy_is : copy_do t c from ≡ (checked_of (sheet_of (parts_in t)) r >>= λ _. Got from)
   unfolding copy_do
   copy_is = rw (← k.is)
 
-  pub copy_not_table : r ≡ Checked.NotTable → StoredAs (copy_do t c from) to to NotTable
-  copy_not_table e = refused to (copy_is ∙ rw e) refl
+  pub copy_refused : {e : OpenError} → r ≡ Err e → StoredAs (copy_do t c from) to to (Err e)
+  copy_refused e = refused to (copy_is ∙ rw e) refl
 
-  pub copy_not_book : r ≡ Checked.NotBook → StoredAs (copy_do t c from) to to NotBook
-  copy_not_book e = refused to (copy_is ∙ rw e) refl
-
-  pub copy_done : r ≡ Checked.Passed → SizeOk from c → length to ≡ length from → {after : List ℕ} {end : ℕ}
-      → Put to after 0 (slice 0 (96 + 64 * c) from) end → StoredAs (copy_do t c from) to after Done
+  pub copy_done : r ≡ Ok tt → SizeOk from c → length to ≡ length from → {after : List ℕ} {end : ℕ}
+      → Put to after 0 (slice 0 (96 + 64 * c) from) end → StoredAs (copy_do t c from) to after (Ok tt)
   copy_done e size even {after} put = done to (copy_is ∙ rw e (ap Got (sym whole)))
     where
       whole : after ≡ from
@@ -112,36 +106,36 @@ module _ {t : List ℕ} {c : ℕ} {from : List ℕ} {r : Checked} (k : CheckedAs
 
 -- ---- `save` and `restore`
 
-module _ {t b : List ℕ} {r : Sized} (k : SizedAs t b r) where
-  pub book-size : {c : ℕ} → r ≡ Bars c → SizeOk b c
+module _ {t b : List ℕ} {r : Option ℕ} (k : SizedAs t b r) where
+  pub book-size : {c : ℕ} → r ≡ Some c → SizeOk b c
   book-size e = (subst (RoomOk t b) e k.ok).1
 
   module _ (image : List ℕ) where
     pair_is : sized_pair t b image ≡ (sized_of r >>= λ c. must 8 (eqb (length image) (length b)) >>= λ _. Got c)
     pair_is = rw (← k.is)
 
-    module _ (e : r ≡ Wrong) where
+    module _ (e : r ≡ None) where
       none : sized_pair t b image ≡ Refused 8
       none = pair_is ∙ rw e
 
-      pub save_wrong : StoredAs (save_do t b image) image image WrongLength
+      pub save_wrong : StoredAs (save_do t b image) image image (Err WrongLength)
       unfolding save_do
       save_wrong = refused image (rw none) refl
 
-      pub restore_wrong : StoredAs (restore_do t b image) b b WrongLength
+      pub restore_wrong : StoredAs (restore_do t b image) b b (Err WrongLength)
       unfolding restore_do
       restore_wrong = refused b (rw none) refl
 
-    module _ {c : ℕ} (e : r ≡ Bars c) where
+    module _ {c : ℕ} (e : r ≡ Some c) where
       module _ (h : length image ≢ length b) where
         uneven : sized_pair t b image ≡ Refused 8
         uneven = pair_is ∙ rw (e, ne_eqb _ _ h)
 
-        pub save_uneven : StoredAs (save_do t b image) image image WrongLength
+        pub save_uneven : StoredAs (save_do t b image) image image (Err WrongLength)
         unfolding save_do
         save_uneven = refused image (rw uneven) refl
 
-        pub restore_uneven : StoredAs (restore_do t b image) b b WrongLength
+        pub restore_uneven : StoredAs (restore_do t b image) b b (Err WrongLength)
         unfolding restore_do
         restore_uneven = refused b (rw uneven) refl
 
@@ -152,10 +146,10 @@ module _ {t b : List ℕ} {r : Sized} (k : SizedAs t b r) where
         pub image-size : SizeOk image c
         image-size = record { long = h ∙ (book-size e).long; least = (book-size e).least; most = (book-size e).most }
 
-        pub save_copies : {after : List ℕ} {q : Stored} → StoredAs (copy_do t c b) image after q → StoredAs (save_do t b image) image after q
+        pub save_copies : {after : List ℕ} {q : Result (Unit {0}) OpenError} → StoredAs (copy_do t c b) image after q → StoredAs (save_do t b image) image after q
         unfolding save_do copy_do
         save_copies s = rw even s
 
-        pub restore_copies : {after : List ℕ} {q : Stored} → StoredAs (copy_do t c image) b after q → StoredAs (restore_do t b image) b after q
+        pub restore_copies : {after : List ℕ} {q : Result (Unit {0}) OpenError} → StoredAs (copy_do t c image) b after q → StoredAs (restore_do t b image) b after q
         unfolding restore_do copy_do
         restore_copies s = rw even s

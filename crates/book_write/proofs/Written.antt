@@ -1,4 +1,5 @@
 -- A bar's writes, one after another, are the book after the bar. Assumes nothing.
+use Rattle.std.specs.Prelude.{Option, None, Some}
 use Prim.Native.Nat.{ℕ, ◌+◌, ◌-◌, ◌*◌, ◌≤◌}
 use native.Mathlib.Omega.{arith}
 use mathlib.Core.Path.{◌≡◌, refl, sym, ap, ◌∙◌, subst}
@@ -27,8 +28,6 @@ use Rattle.book_entry.specs.Numbers.{HoldNumbers}
 use Rattle.book_header_check.proofs.Passed.{Passed, passed}
 use Rattle.position_machine.specs.Update.{wrote_of, going_of}
 use Rattle.position_machine.specs.declared.Update.{Update}
-use Rattle.position_machine.specs.declared.Wrote.{Wrote}
-use Rattle.position_machine.specs.declared.Wrote.TheVariants.{Nothing, One}
 use Rattle.book_write.specs.Write.{BookPassed, BarPassed}
 
 -- ---- what is known of the book
@@ -77,20 +76,20 @@ module _ (b : List ℕ) {hs : ℕ} (counted : hs ≡ u32 b 0) where
 
 -- ---- the records
 
-pub wrote-few : (w : Wrote) → length (wrote_of w) ≤ 1
-wrote-few Nothing = omega arith
-wrote-few (One r) = omega arith
+pub wrote-few : (w : Option Record) → length (wrote_of w) ≤ 1
+wrote-few None = omega arith
+wrote-few (Some r) = omega arith
 
 module _ (b : List ℕ) (at : ℕ) where
   -- what `put_wrote` says
-  abbrev pub Recorded : Wrote → List ℕ → ℕ → Type 0
+  abbrev pub Recorded : Option Record → List ℕ → ℕ → Type 0
   Recorded w m n = (m ≡ patch b at (records_bytes (wrote_of w))) × (n ≡ length (wrote_of w))
 
-  pub recorded_none : {w : Wrote} → w ≡ Nothing → Recorded w b 0
-  recorded_none e = subst (λ (w : Wrote). Recorded w b 0) (sym e) (patch-none b at ∙ ap (patch b at) (sym records-written.none), refl)
+  pub recorded_none : {w : (Option Record)} → w ≡ None → Recorded w b 0
+  recorded_none e = subst (λ (w : Option Record). Recorded w b 0) (sym e) (patch-none b at ∙ ap (patch b at) (sym records-written.none), refl)
 
-  pub recorded_one : {w : Wrote} {r : Record} {m : List ℕ} → w ≡ One r → m ≡ patch b at (record_bytes r) → Recorded w m 1
-  recorded_one {r = r} {m = m} e f = subst (λ (w : Wrote). Recorded w m 1) (sym e) (f ∙ ap (patch b at) (sym (items_one records-written r)), refl)
+  pub recorded_one : {w : (Option Record)} {r : Record} {m : List ℕ} → w ≡ Some r → m ≡ patch b at (record_bytes r) → Recorded w m 1
+  recorded_one {r = r} {m = m} e f = subst (λ (w : Option Record). Recorded w m 1) (sym e) (f ∙ ap (patch b at) (sym (items_one records-written r)), refl)
 
 -- ---- the book
 

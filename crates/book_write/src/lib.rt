@@ -14,7 +14,8 @@ use book::{ENTRY_LENGTH, HEAD_LENGTH};
 use book_entry::{hold_at, put_hold, put_record};
 use book_header_write::put_head;
 use le::get_u32;
-use position_machine::{Update, Wrote, new_hold, settle};
+use position::Record;
+use position_machine::{Update, new_hold, settle};
 
 // The open lots of a book: those of its last hold, if it has one.
 pub fn open_lots(b: &[u8], c: u32) -> u16
@@ -26,8 +27,7 @@ pub fn open_lots(b: &[u8], c: u32) -> u16
         return 0;
     }
     let at = HEAD_LENGTH + ENTRY_LENGTH * (holds - 1);
-    let o = hold_at(&b[at..at + ENTRY_LENGTH]);
-    o.lots
+    hold_at(&b[at..at + ENTRY_LENGTH]).lots
 }
 
 // Works out the yield of the last hold, where there is one.
@@ -46,16 +46,18 @@ fn settle_last(b: &mut [u8], c: u32, bar: Bar)
 }
 
 // Writes the record of a step at a place, if it wrote one, and answers how many it wrote.
-fn put_wrote(b: &mut [u8], at: usize, w: Wrote) -> u32
+fn put_wrote(b: &mut [u8], at: usize, w: Option<Record>) -> u32
     requires at_in_bounds { at + 32 ≤ length b.old }
     requires w_value { wrote_priced w ≡ true }
     ensures { (b.new ≡ patch b.old at (records_bytes (wrote_of w))) × (result ≡ length (wrote_of w)) }
 {
-    let Wrote::One(r) = w else {
-        return 0;
-    };
-    put_record(b, at, r);
-    1
+    match w {
+        None => 0,
+        Some(r) => {
+            put_record(b, at, r);
+            1
+        }
+    }
 }
 
 // Writes an accepted bar: the last hold settled, the new hold, its record if there is one, the header.
@@ -68,8 +70,6 @@ pub fn write_bar(b: &mut [u8], c: u32, bar: Bar, u: Update)
 {
     let hs = get_u32(b, 0);
     let rs = get_u32(b, 4);
-    let h = u.head;
-    let w = u.wrote;
     settle_last(b, c, bar);
     put_hold(
         b,
@@ -77,6 +77,6 @@ pub fn write_bar(b: &mut [u8], c: u32, bar: Bar, u: Update)
         new_hold(bar, u),
     );
     let records = HEAD_LENGTH + ENTRY_LENGTH * c as usize;
-    let n = put_wrote(b, records + ENTRY_LENGTH * rs as usize, w);
-    put_head(b, c, hs + 1, rs + n, h);
+    let n = put_wrote(b, records + ENTRY_LENGTH * rs as usize, u.wrote);
+    put_head(b, c, hs + 1, rs + n, u.head);
 }

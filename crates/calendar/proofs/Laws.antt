@@ -1,11 +1,10 @@
 -- The calendar's laws: what a day that there is says of its parts, and that days are counted upwards. Assumes nothing.
-use mathlib.Core.Path.{◌≡◌, refl}
+use mathlib.Core.Path.{◌≡◌}
 use mathlib.Core.Bool.{true, ◌&&◌, and-eq-true_iff}
 use Prim.Native.Nat.{ℕ, zero, suc, ◌+◌, ◌-◌, ◌≤◌, ◌<◌}
 use native.Mathlib.Omega.{arith}
-use mathlib.Core.Logic.{◌⊎◌, inl, inr, ⊎_elim}
 use lib.Dec.{leb}
-use borrow.Author.Tests.{leb-true, ne_eqb}
+use borrow.Author.Tests.{leb-true}
 use Rattle.text.specs.Number.{within}
 use Rattle.calendar.proofs.Forms.{years}
 use Rattle.calendar.specs.Calendar.{month_length, months_before, years_before, month_first, day_number, real_day, Month}
@@ -34,22 +33,6 @@ day_parts y m d e =
       begun = day.0;
       inside = day.1;
     }
-
--- the lengths of months as the code parts them
-pub short_month : (y m : ℕ) → (m ≡ 4) ⊎ ((m ≡ 6) ⊎ ((m ≡ 9) ⊎ (m ≡ 11))) → 30 ≡ month_length y m
-unfolding month_length
-short_month y m = ⊎_elim (λ e. rw e) (⊎_elim (λ e. rw e) (⊎_elim (λ e. rw e) (λ e. rw e)))
-
-pub long_month : (y m : ℕ) → (m ≡ 2 → ⊥) → ((m ≡ 4) ⊎ ((m ≡ 6) ⊎ ((m ≡ 9) ⊎ (m ≡ 11))) → ⊥) → 31 ≡ month_length y m
-unfolding month_length
-long_month y m a b =
-    rw (
-      ne_eqb m 2 a,
-      ne_eqb m 4 (λ e. b (inl e)),
-      ne_eqb m 6 (λ e. b (inr (inl e))),
-      ne_eqb m 9 (λ e. b (inr (inr (inl e)))),
-      ne_eqb m 11 (λ e. b (inr (inr (inr e)))),
-    )
 
 -- the days of more months are not fewer
 grows : (y i n : ℕ) → months_before y i ≤ months_before y (i + n)

@@ -5,8 +5,8 @@ use mathlib.Core.Bool.{true, false}
 use lib.IntN.{pos, negsuc}
 use lib.Dec.{le→leb, lit≤}
 use lib.Ieee.{Float, inf, fin, binary64, of_bits, to_bits, neg}
-use Rattle.double.specs.declared.Side.TheVariants.{Long, Short}
 use Rattle.double.specs.declared.Yield.TheVariants.{Absent, Bp}
+use Rattle.double.specs.declared.Side.TheVariants.{Long, Short}
 use Rattle.double.specs.Double.{whole, round_away, hold_yield, pair_yield, stop_hit, days_of}
 use Rattle.double.specs.Distance.{Moved, Within}
 use Rattle.double.proofs.Opened.{opened}

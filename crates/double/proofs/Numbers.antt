@@ -7,9 +7,9 @@ use native.Mathlib.Omega.{arith}
 use lib.Ieee.{Float, Format, nan, inf, fin, binary64, is_nan, round, sum, add, sub, mul, div, neg, lt, up, down, unlike, of_int}
 use lib.IntN.{ℤ, pos, negsuc}
 use lib.Ieee.Scale.{finite}
+use Rattle.double.specs.declared.Yield.TheVariants.{Absent, Bp}
 use Rattle.double.specs.declared.Side.{Side}
 use Rattle.double.specs.declared.Side.TheVariants.{Long, Short}
-use Rattle.double.specs.declared.Yield.TheVariants.{Absent, Bp}
 use Rattle.double.specs.Double.{whole, ◌−◌, ◌×ᶠ◌, ◌÷◌, is_zero, half, round_away, gain, hold_yield, pair_yield, yield_ok, days_of}
 use Rattle.double.proofs.Branches.{both}
 use Rattle.double.proofs.Signs.{Signed, round_signed}

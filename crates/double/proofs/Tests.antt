@@ -1,37 +1,25 @@
 -- What the code's tests of doubles decide. Assumes nothing.
-use Prim.Native.Nat.{ℕ, zero, suc, ◌*◌, ◌^◌, ◌<◌}
+use Prim.Native.Nat.{ℕ, zero, suc, ◌*◌, ◌<◌}
 use native.Mathlib.Nat.{mul-pos, zero-lt-suc}
 use native.Mathlib.Omega.{arith}
 use mathlib.Core.Path.{◌≡◌, refl, sym, ◌∙◌}
-use mathlib.Core.Bool.{Bool, true, false, not, ◌&&◌, ◌||◌, beq, true≢false, false≢true}
-use lib.Dec.{T, eqb, le→leb, lt→ltb}
-use lib.IntN.{ℤ, pos, negsuc}
-use lib.Signed.{mag}
+use mathlib.Core.Bool.{Bool, true, false, not, ◌&&◌, ◌||◌, beq, true≢false}
+use lib.Dec.{T, eqb}
 use borrow.Author.Tests.{ne_eqb}
-use lib.Ieee.{Float, nan, inf, fin, binary64, of_bits, of_int, is_nan, div, neg, lt, eq, ne, up, down, in_float}
+use lib.Ieee.{Float, nan, inf, fin, of_int, is_nan, eq, ne, up, down}
 use lib.Ieee.Compare.{nan_differs}
 use lib.Ieee.Fits.{up_pos}
 use lib.Ieee.Scale.{finite}
+use Rattle.std.specs.Float.{float_is_finite}
 use Rattle.double.specs.Double.{whole, is_zero}
 
--- ---- finite: between the infinities, which the code has as 1 / 0
+-- ---- std's words
 
-pub big_is : div binary64 (of_bits binary64 0x3ff0_0000_0000_0000) (of_bits binary64 0) ≡ inf false
-unfolding of_bits div
-big_is = refl
-
-pub below : (x : Float) → lt x (inf false) ≡ true → lt (neg (inf false)) x ≡ finite x
-unfolding lt neg
-below nan h = refl
-below (inf true) h = refl
-below (inf false) h = absurd (false≢true h)
-below (fin s m e) h = refl
-
-pub not-below : (x : Float) → lt x (inf false) ≡ false → false ≡ finite x
-unfolding lt
-not-below nan h = refl
-not-below (inf s) h = refl
-not-below (fin s m e) h = absurd (true≢false h)
+pub finite_is : (x : Float) → float_is_finite x ≡ finite x
+unfolding float_is_finite
+finite_is nan = refl
+finite_is (inf s) = refl
+finite_is (fin s m e) = refl
 
 -- ---- a number: what equals itself
 
@@ -61,10 +49,3 @@ zero_test (fin s m e) = go m (up e) (down e) (up_pos e) s
     go (suc m) a k h s =
         let p : 0 < suc m * a = mul-pos (zero-lt-suc m) h in
         rw (ne_eqb (suc m * a * 1) (0 * 1 * k) (omega arith), ne_eqb (suc m) 0 (omega arith))
-
--- ---- an integer that a double holds
-
-pub held : (z : ℤ) → mag z < 2 ^ 53 → T (in_float binary64 z)
-unfolding in_float
-held (pos n) h = le→leb n (2 ^ 53) (omega arith)
-held (negsuc n) h = lt→ltb n (2 ^ 53) h

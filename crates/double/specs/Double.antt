@@ -2,10 +2,10 @@
 use Rattle.std.specs.Prelude.{ℕ, ◌+◌, ◌*◌, ◌/◌, Bool, true, false, not, cond, eqb, ℤ, pos, Float}
 use Rattle.std.specs.Float.{nan, inf, fin, binary64}
 use Rattle.std.specs.Float.Ieee.{is_nan, up, down, round, neg, sub, mul, div, lt, of_int}
-use Rattle.double.specs.declared.Side.{Side}
-use Rattle.double.specs.declared.Side.TheVariants.{Long, Short}
 use Rattle.double.specs.declared.Yield.{Yield}
 use Rattle.double.specs.declared.Yield.TheVariants.{Absent, Bp}
+use Rattle.double.specs.declared.Side.{Side}
+use Rattle.double.specs.declared.Side.TheVariants.{Long, Short}
 
 -- a whole number as a double
 abbrev pub whole : ℕ → Float

@@ -17,7 +17,7 @@ pub enum Side {
     Short,
 }
 
-// The yield of a hold or of a pair in basis points.
+// The yield of a hold or of a pair in basis points. An enum of its own: the form that the specification names for it.
 #[derive(Clone, Copy)]
 pub enum Yield {
     Absent,
@@ -28,8 +28,7 @@ pub enum Yield {
 pub fn is_finite(x: f64) -> bool
     ensures { result ≡ finite x }
 {
-    let big = 1.0 / 0.0;
-    if x < big { -big < x } else { false }
+    x.is_finite()
 }
 
 // The whole number nearest to a magnitude with the exponent's field e and the digits t: ties go up.
@@ -45,7 +44,7 @@ fn nearest(e: u64, t: u64) -> u64
     q / 2
 }
 
-// x rounded to a whole number, ties away from zero, worked out from its bits.
+// x rounded to a whole number, ties away from zero, worked out from its bits: the form that the specification names for it, not std's `round`.
 pub fn round_away(x: f64) -> f64
     ensures { result ≡ round_away x }
 {
@@ -80,9 +79,10 @@ pub fn hold_yield(own: f64, next: f64) -> Yield
     ensures { result ≡ hold_yield own next }
 {
     if own > 0.0 {
-        return Yield::Bp(gain(Side::Long, next, own) * 10000.0);
+        Yield::Bp(gain(Side::Long, next, own) * 10000.0)
+    } else {
+        Yield::Absent
     }
-    Yield::Absent
 }
 
 // The yield of a pair, in hundredths of a basis point rounded.
@@ -90,9 +90,10 @@ pub fn pair_yield(side: Side, opening: f64, closing: f64) -> Yield
     ensures { result ≡ pair_yield side opening closing }
 {
     if opening == 0.0 {
-        return Yield::Absent;
+        Yield::Absent
+    } else {
+        Yield::Bp(round_away(gain(side, closing, opening) * 10000.0 * 100.0) / 100.0)
     }
-    Yield::Bp(round_away(gain(side, closing, opening) * 10000.0 * 100.0) / 100.0)
 }
 
 // Whether the price has passed the stop, which is given in basis points: equality does not pass.

@@ -2,7 +2,7 @@
 use Prim.Native.Nat.{ℕ, zero, suc}
 use mathlib.Core.Bool.{Bool, true, false}
 use mathlib.Core.List.{List, [], ◌∷◌, ◌++◌}
-use mathlib.Core.Option.{none, some}
+use Rattle.std.specs.Prelude.{None, Some}
 use mathlib.Core.Path.{◌≡◌, refl}
 use lib.ListN.{length}
 use Rattle.text.specs.Answer.{Refused, Got, ◌>>=◌}
@@ -89,7 +89,7 @@ unfolding opened
 event_matches = (refl, refl, refl, refl, refl)
 
 -- openings come first, wherever they stand; none where none matches
-first : (first_match (event true [] ∷ event false [] ∷ []) [] ≡ some 1) × (first_match (event true [] ∷ event false (record { kind = All; signal = clause } ∷ []) ∷ []) [] ≡ some 0)
-    × (first_match (event false [] ∷ event false [] ∷ []) [] ≡ some 0) × (first_match (event false (record { kind = All; signal = clause } ∷ []) ∷ []) [] ≡ none)
+first : (first_match (event true [] ∷ event false [] ∷ []) [] ≡ Some 1) × (first_match (event true [] ∷ event false (record { kind = All; signal = clause } ∷ []) ∷ []) [] ≡ Some 0)
+    × (first_match (event false [] ∷ event false [] ∷ []) [] ≡ Some 0) × (first_match (event false (record { kind = All; signal = clause } ∷ []) ∷ []) [] ≡ None)
 unfolding opened
 first = (refl, refl, refl, refl)

@@ -1,6 +1,5 @@
 -- Which event a bar's signals choose: on texts alone. Assumes nothing.
-use Rattle.std.specs.Prelude.{ℕ, suc, Bool, true, false, not, cond, ◌&&◌, ◌||◌, List, [], ◌∷◌, pos}
-use Rattle.std.proofs.Math.Option.{Option, none, some}
+use Rattle.std.specs.Prelude.{ℕ, suc, Bool, true, false, not, cond, ◌&&◌, ◌||◌, List, [], ◌∷◌, pos, Option, None, Some}
 use Rattle.std.specs.Int.Signed.{le_z}
 use Rattle.text.specs.Text.{same, empty}
 use Rattle.text.specs.Conditions.{every, any_of}
@@ -13,7 +12,7 @@ use Rattle.event.specs.Signals.{Line}
 
 -- the value of a key; "A value counts when ..; otherwise its key counts as absent."
 unfoldable pub value_at : List ℕ → List Line → Option Value
-value_at k [] = none
+value_at k [] = None
 value_at k (l ∷ ls) = cond (same k l.key) (value_of l.value) (value_at k ls)
 
 -- "each v is equal or the clause's is wild"
@@ -25,8 +24,8 @@ unfoldable pub meets : Signal → Value → Bool
 meets c v = le_z (pos c.score) v.score && agrees c.v1 v.v1 && agrees c.v2 v.v2 && agrees c.v3 v.v3
 
 abbrev pub met_by : Signal → Option Value → Bool
-met_by c none = false
-met_by c (some v) = meets c v
+met_by c None = false
+met_by c (Some v) = meets c v
 
 -- "A clause holds when its key is present, the score is at least its own, and each v is equal or the clause's is wild."
 unfoldable pub holds : List Line → Signal → Bool
@@ -66,12 +65,12 @@ is_opening e = not e.exit
 
 -- the first event of that kind that matches, where k events stand before
 unfoldable pub first_of : (Event → Bool) → ℕ → List Line → List Event → Option ℕ
-first_of kind k ls [] = none
-first_of kind k ls (e ∷ es) = cond (kind e && matches ls e) (some k) (first_of kind (suc k) ls es)
+first_of kind k ls [] = None
+first_of kind k ls (e ∷ es) = cond (kind e && matches ls e) (Some k) (first_of kind (suc k) ls es)
 
 abbrev pub preferred : Option ℕ → Option ℕ → Option ℕ
-preferred none y = y
-preferred (some x) y = some x
+preferred None y = y
+preferred (Some x) y = Some x
 
 -- "The first event that matches is chosen, openings before exits; none exactly when none matches."
 unfoldable pub first_match : List Event → List Line → Option ℕ

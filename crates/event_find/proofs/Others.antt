@@ -1,12 +1,15 @@
 -- Laws of lines with other fingerprints: the invariants of `has_print` and `skip_lines`. Assumes nothing.
-use mathlib.Core.Path.{◌≡◌}
+use mathlib.Core.Path.{◌≡◌, ◌∙◌, refl, sym}
+use mathlib.Core.Bool.{Bool, true, false, false≢true}
+use borrow.Author.Tests.{eq-eqb}
+use lib.Dec.{eqb}
 use mathlib.Core.Logic.{◌≢◌}
 use mathlib.Core.List.{List}
 use Prim.Native.Nat.{ℕ, ◌+◌, ◌%◌, ◌≤◌, ◌<◌}
 use native.Mathlib.Decide.{dec_lt}
 use native.Mathlib.Omega.{arith}
 use lib.ListN.{get_or}
-use Rattle.utf8_common.specs.Common.{ZeroFor}
+use Rattle.std.specs.Int.{from_bool}
 use Rattle.event_find.specs.Steps.{Others}
 
 -- ---- `has_print`
@@ -37,14 +40,18 @@ counting_start prints h i =
     record { few = omega arith; most = omega arith; others = λ _. rw e (others_none prints h i) }
 
 module _ {prints : List ℕ} {h i count k : ℕ} (c : Counting prints h i count k) where
-  pub counting_more : {x : ℕ} → k < 64 → ZeroFor (get_or prints (i + k) 0 ≢ h) x → Counting prints h i (count + x) (k + 1)
-  counting_more {x} l z =
-      let e : i + (k + 1) ≡ i + k + 1 = omega arith in
-      record {
-        few = omega arith;
-        most = omega (arith, c.most, z.most);
-        others = λ n. rw e (others_more (c.others (omega arith)) (z.zero (omega arith)));
-      }
+  pub counting_more : {x : ℕ} → k < 64 → x ≡ from_bool (eqb (get_or prints (i + k) 0) h) → Counting prints h i (count + x) (k + 1)
+  counting_more {x} l e = go (eqb (get_or prints (i + k) 0) h) refl e
+    where
+      go : (t : Bool) → eqb (get_or prints (i + k) 0) h ≡ t → x ≡ from_bool t → Counting prints h i (count + x) (k + 1)
+      go true q e = record { few = omega arith; most = omega (arith, c.most); others = λ n. absurd (omega arith) }
+      go false q e =
+          let j : i + (k + 1) ≡ i + k + 1 = omega arith in
+          record {
+            few = omega arith;
+            most = omega (arith, c.most);
+            others = λ n. rw j (others_more (c.others (omega arith)) (λ z. false≢true (sym q ∙ eq-eqb (get_or prints (i + k) 0) h z)));
+          }
 
   pub counting_end : 64 ≤ k → count ≤ 0 → Others prints h i (i + 64)
   counting_end l n =

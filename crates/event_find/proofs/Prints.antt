@@ -19,7 +19,7 @@ use Rattle.event_find.specs.Steps.{Printing, PrintingEnd}
 -- ---- `print_words` and `fingerprint`
 
 pub printing-first : {s : List ℕ} {from to : ℕ} → Part s from to → Printing s from to 0 from
-printing-first p = record { left = p; small = omega arith; still = refl }
+printing-first p = record { left = p; still = refl }
 
 -- a byte of a text that has no word
 print_byte : (h x : ℕ) (t : List ℕ) → length t < 3 → print_from h (x ∷ t) ≡ print_from (mixed h x) t
@@ -38,13 +38,12 @@ part-word i to s h l =
     rw (part_cons i to s (omega arith) l, part_cons (i + 1) to s (omega arith) l, two, part_cons (i + 2) to s (omega arith) l, three, part_cons (i + 3) to s (omega arith) l, four)
 
 module _ {s : List ℕ} {from to h i : ℕ} (p : Printing s from to h i) where
-  pub printing-word : {w r : ℕ} → 4 ≤ to - i → w ≡ le_nat (part s i 4) → r ≡ mixed h w → r < 4294967296 → Printing s from to r (i + 4)
+  pub printing-word : {w r : ℕ} → 4 ≤ to - i → w ≡ le_nat (part s i 4) → r ≡ mixed h w → Printing s from to r (i + 4)
   unfolding print_from
-  printing-word {w} l e g b =
+  printing-word {w} l e g =
       let n = e ∙ sym (four s i (omega (arith, p.left.within))) in
       record {
         left = record { order = omega arith; within = p.left.within };
-        small = b;
         still = p.still ∙ rw (part-word i to s (omega arith) p.left.within, print_from, g, n);
       }
 
@@ -52,14 +51,13 @@ module _ {s : List ℕ} {from to h i : ℕ} (p : Printing s from to h i) where
   printing-end l = record { printing = p; short = omega (arith, p.left.order) }
 
 module _ {s : List ℕ} {from to h i : ℕ} (p : PrintingEnd s from to h i) where
-  pub printing_byte : {x r : ℕ} → i < to → x ≡ get_or s i 0 → r ≡ mixed h x → r < 4294967296 → PrintingEnd s from to r (i + 1)
-  printing_byte {x} l e g b =
+  pub printing_byte : {x r : ℕ} → i < to → x ≡ get_or s i 0 → r ≡ mixed h x → PrintingEnd s from to r (i + 1)
+  printing_byte {x} l e g =
       let w = p.printing.left.within in
       let n : length (slice (i + 1) to s) < 3 = omega (arith, length-slice (i + 1) to s w, p.short) in
       record {
         printing = record {
           left = record { order = omega arith; within = w };
-          small = b;
           still = p.printing.still ∙ rw (part_cons i to s l w, print_byte h (get_or s i 0) (slice (i + 1) to s) n, g, e);
         };
         short = omega (arith, p.short);

@@ -1,21 +1,17 @@
 -- What the steps of the finding answer: a fingerprint by words, lines with another fingerprint, the line of a key. Assumes nothing.
-use Rattle.std.specs.Prelude.{ℕ, ◌+◌, ◌≤◌, ◌<◌, ◌≡◌, ◌≢◌, true, false, List, get_or}
-use Rattle.std.proofs.Math.Option.{none}
+use Rattle.std.specs.Prelude.{ℕ, ◌+◌, ◌≤◌, ◌<◌, ◌≡◌, ◌≢◌, true, false, List, get_or, None, Option, Some}
 use Rattle.std.proofs.Math.Seq.{slice}
 use Rattle.text.specs.Read.{Part}
 use Rattle.signal.specs.Value.{value_of}
 use Rattle.event.specs.Signals.{has_key}
 use Rattle.event.specs.Match.{value_at}
 use Rattle.event_find.specs.Places.{print_from, line_at, lines_at}
-use Rattle.event_find.specs.declared.Found.{Found}
-use Rattle.event_find.specs.declared.Found.TheVariants.{At, Nowhere}
 
 -- ---- a fingerprint
 
 -- h is the fingerprint of s in from..to up to i
 pub record Printing (s : List ℕ) (from to h i : ℕ) : Type 0 where
   pub left : Part s i to
-  pub small : h < 4294967296
   pub still : print_from 0 (slice from to s) ≡ print_from h (slice i to s)
 
 -- where no word is left
@@ -40,8 +36,8 @@ pub record FoundAt (k s starts mids : List ℕ) (n i : ℕ) : Type 0 where
 -- no line's key is k
 pub record Missing (k s starts mids : List ℕ) (n : ℕ) : Type 0 where
   pub has : has_key k (lines_at s starts mids n) ≡ false
-  pub value : value_at k (lines_at s starts mids n) ≡ none
+  pub value : value_at k (lines_at s starts mids n) ≡ None
 
-abbrev pub FoundAs : List ℕ → List ℕ → List ℕ → List ℕ → ℕ → Found → Type 0
-FoundAs k s starts mids n (At i) = FoundAt k s starts mids n i
-FoundAs k s starts mids n Nowhere = Missing k s starts mids n
+abbrev pub FoundAs : List ℕ → List ℕ → List ℕ → List ℕ → ℕ → Option ℕ → Type 0
+FoundAs k s starts mids n (Some i) = FoundAt k s starts mids n i
+FoundAs k s starts mids n None = Missing k s starts mids n

@@ -1,11 +1,10 @@
 // Finding the line of a key in a bar's signals, by fingerprints of their keys.
 #![tactic(auto)]
 
-ghost use Rattle.std.specs.Prelude.{◌≡◌, ◌≢◌, false, ◌+◌, ◌≤◌, ◌<◌, length};
+ghost use Rattle.std.specs.Prelude.{◌≡◌, false, ◌+◌, ◌≤◌, ◌<◌, length};
 ghost use Rattle.std.proofs.Math.Seq.{slice};
 ghost use Rattle.text.specs.Read.{Part};
 ghost use Rattle.text.specs.Text.{same};
-ghost use Rattle.utf8_common.specs.Common.{ZeroFor};
 ghost use Rattle.event_find.specs.Places.{mixed, print, LinesOk};
 ghost use Rattle.event_find.specs.Steps.{PrintingEnd, Others, FoundAs};
 
@@ -15,23 +14,15 @@ use text::part_eq;
 // A fingerprint up to a place.
 #[derive(Clone, Copy)]
 struct Printed {
-    print: u64,
+    print: u32,
     at: usize,
 }
 
-// The number of a line, or none.
-#[derive(Clone, Copy)]
-pub enum Found {
-    At(usize),
-    Nowhere,
-}
-
 // A fingerprint with one number more.
-fn mix(h: u64, w: u32) -> u64
-    requires { h < 4294967296 }
-    ensures { (result ≡ mixed h w) × (result < 4294967296) }
+fn mix(h: u32, w: u32) -> u32
+    ensures { result ≡ mixed h w }
 {
-    (h * 2654435761 + w as u64) % 4294967296
+    h.wrapping_mul(2654435761).wrapping_add(w)
 }
 
 // The fingerprint of the words of s in from..to, four bytes each, and the place behind them.
@@ -39,8 +30,9 @@ fn print_words(s: &[u8], from: usize, to: usize) -> Printed
     requires { Part s.now from to }
     ensures { PrintingEnd s.now from to result.print result.at }
 {
-    let mut h: u64 = 0;
+    let mut h: u32 = 0;
     let mut i = from;
+    // A while loop: whole words, then the place where none is left is handed on.
     while 4 <= to - i {
         h = mix(h, get_u32(s, i));
         i += 4;
@@ -55,22 +47,10 @@ pub fn fingerprint(s: &[u8], from: usize, to: usize) -> u16
 {
     let p = print_words(s, from, to);
     let mut h = p.print;
-    let mut i = p.at;
-    while i < to {
+    for i in p.at..to {
         h = mix(h, wide(s[i]));
-        i += 1;
     }
-    (h / 65536) as u16
-}
-
-// 1 where the numbers are equal, else 0.
-fn equal(a: u16, b: u16) -> u16
-    ensures { ZeroFor (a ≢ b) result }
-{
-    if a == b {
-        return 1;
-    }
-    0
+    (h >> 16) as u16
 }
 
 // Whether one of 64 lines from i on has the fingerprint h: they are counted with no way out before the end, as in `plain_block`.
@@ -79,10 +59,8 @@ fn has_print(prints: &[u16], h: u16, i: usize) -> bool
     ensures { result ≡ false → Others prints.now h i (i + 64) }
 {
     let mut count: u16 = 0;
-    let mut k: usize = 0;
-    while k < 64 {
-        count += equal(prints[i + k], h);
-        k += 1;
+    for k in 0..64 {
+        count += u16::from(prints[i + k] == h);
     }
     0 < count
 }
@@ -93,6 +71,7 @@ fn skip_lines(prints: &[u16], h: u16, n: usize) -> usize
     ensures { (result ≤ n) × Others prints.now h 0 result }
 {
     let mut i: usize = 0;
+    // A while loop: `step_by` has no measure of its own.
     while i < n {
         if has_print(prints, h, i) {
             return i;
@@ -108,10 +87,7 @@ fn is_key(key: &[u8], h: u16, s: &[u8], from: usize, to: usize, p: u16) -> bool
     requires part { Part s.now from to }
     ensures { result ≡ same key.now (slice from to s.now) }
 {
-    if h != p {
-        return false;
-    }
-    part_eq(key, 0, key.len(), s, from, to)
+    h == p && part_eq(key, 0, key.len(), s, from, to)
 }
 
 // The first of n lines that has the key, whose fingerprint is h.
@@ -123,17 +99,15 @@ pub fn find_line(
     mids: &[usize],
     prints: &[u16],
     n: usize,
-) -> Found
+) -> Option<usize>
     requires h_value { h ≡ print key.now }
     requires lines_ok { LinesOk s.now starts.now mids.now prints.now n }
     ensures { FoundAs key.now s.now starts.now mids.now n result }
 {
-    let mut i = skip_lines(prints, h, n);
-    while i < n {
+    for i in skip_lines(prints, h, n)..n {
         if is_key(key, h, s, starts[i], mids[i], prints[i]) {
-            return Found::At(i);
+            return Some(i);
         }
-        i += 1;
     }
-    Found::Nowhere
+    None
 }

@@ -2,12 +2,12 @@
 use mathlib.Core.Path.{◌≡◌, refl}
 use mathlib.Core.Logic.{◌≢◌}
 use mathlib.Core.List.{List}
-use Prim.Native.Nat.{ℕ, ◌+◌, ◌≤◌, ◌<◌}
+use Prim.Native.Nat.{ℕ, min, ◌+◌, ◌≤◌, ◌<◌}
 use native.Mathlib.Decide.{dec_lt}
 use native.Mathlib.Omega.{arith}
 use lib.ListN.{length, get_or}
 use Rattle.text.specs.Text.{LF, pipe}
-use Rattle.event_line.specs.Fields.{Lesser, Placed, mark, plain, FieldEnd}
+use Rattle.event_line.specs.Fields.{Placed, mark, plain, FieldEnd}
 
 -- ---- the end of a field
 
@@ -57,10 +57,10 @@ pub record Passing (s : List ℕ) (from i : ℕ) : Type 0 where
 pub passing_start : (s : List ℕ) (from : ℕ) → from ≤ length s → Passing s from from
 passing_start s from h = record { ends = end-start s from; within = h }
 
-pub passing_end : {s : List ℕ} {from i : ℕ} → Passing s from i → length s ≤ i → FieldEnd s from (length s) i
+pub passing_end : {s : List ℕ} {from i : ℕ} → Passing s from i → length s ≤ i → FieldEnd s from (length s) (length s)
 passing_end {s} {from} {i} p h =
-    let e : length s ≡ i = omega (arith, p.within) in
-    rw e p.ends
+    let e : i ≡ length s = omega (arith, p.within) in
+    rw e at p.ends
 
 module _ {s : List ℕ} {from i k : ℕ} (p : Passing s from i) (f : FieldEnd s i (i + 64) (i + k)) (w : i + 64 ≤ length s) where
   pub passing_found : k < 64 → FieldEnd s from (length s) (i + k)
@@ -84,16 +84,16 @@ looking_start s i =
     nothing refl (rw e (end-start s i))
 
 module _ {s : List ℕ} {i first k : ℕ} where
-  looking_more : Looking s i first k → k < 64 → {x r : ℕ} → Placed (get_or s (i + k) 0) k x → Lesser first x r → Looking s i r (k + 1)
+  looking_more : Looking s i first k → k < 64 → {x r : ℕ} → Placed (get_or s (i + k) 0) k x → r ≡ min first x → Looking s i r (k + 1)
   looking_more (nothing e f) h {x} {r} (mark g m) l =
-      let n : r ≡ k = omega (arith, l.right, l.most k (omega arith) (omega arith)) in
+      let n : r ≡ k = omega arith in
       rw n (found (omega arith) (end-here f (omega arith) m))
   looking_more (nothing e f) h {x} {r} (plain g a b) l =
-      let n : r ≡ 64 = omega (arith, l.right, l.most 64 (omega arith) (omega arith)) in
+      let n : r ≡ 64 = omega arith in
       let j : i + (k + 1) ≡ i + k + 1 = omega arith in
       nothing n (rw j (end_more f a b))
   looking_more (found e f) h {x} {r} p l =
-      let n : r ≡ first = omega (arith, l.left, l.most first (omega arith) (beyond p)) in
+      let n : r ≡ first = omega (arith, beyond p) in
       rw n (found (omega arith) (end_wide f (omega arith) (omega arith)))
     where
       beyond : Placed (get_or s (i + k) 0) k x → first ≤ x
@@ -114,8 +114,8 @@ pub looked_start : (s : List ℕ) (i : ℕ) → Looked s i 64 0
 looked_start s i = record { few = omega arith; most = omega arith; looking = looking_start s i }
 
 module _ {s : List ℕ} {i first k : ℕ} (l : Looked s i first k) where
-  pub looked_more : k < 64 → {x r : ℕ} → Placed (get_or s (i + k) 0) k x → Lesser first x r → Looked s i r (k + 1)
-  looked_more h p m = record { few = omega arith; most = omega (arith, l.most, m.left); looking = looking_more l.looking h p m }
+  pub looked_more : k < 64 → {x r : ℕ} → Placed (get_or s (i + k) 0) k x → r ≡ min first x → Looked s i r (k + 1)
+  looked_more h p m = record { few = omega arith; most = omega (arith, l.most); looking = looking_more l.looking h p m }
 
   pub looked_end : 64 ≤ k → FieldEnd s i (i + 64) (i + first)
   looked_end h = looking_end l.looking (omega (arith, l.few))

@@ -1,18 +1,12 @@
 -- What the steps of reading one line answer: the end of a field, a line of two fields. Assumes nothing.
-use Rattle.std.specs.Prelude.{ℕ, ◌+◌, ◌≤◌, ◌<◌, ◌≡◌, ◌≢◌, List, [], ◌∷◌, length, get_or}
+use Rattle.std.specs.Prelude.{ℕ, ◌+◌, ◌≤◌, ◌<◌, ◌≡◌, ◌≢◌, List, [], ◌∷◌, length, get_or, Option, Some, None}
 use Rattle.std.proofs.Math.Seq.{slice}
 use Rattle.text.specs.Answer.{Answer, Refused, ◌>>=◌}
 use Rattle.text.specs.Text.{split, each_line, LF, pipe}
+use Rattle.event_line.specs.declared.LineEnds.{LineEnds}
 use Rattle.event.specs.Signals.{Line, signal_line}
-use Rattle.event_line.specs.declared.LineRead.{LineRead}
-use Rattle.event_line.specs.declared.LineRead.TheVariants.{Ends, Wrong}
 
 -- ---- the end of a field
-
-pub record Lesser (a b r : ℕ) : Type 0 where
-  pub left : r ≤ a
-  pub right : r ≤ b
-  pub most : (z : ℕ) → z ≤ a → z ≤ b → z ≤ r
 
 -- b ends a field and x is its place k, or b does not and x is 64
 pub data Placed (b k x : ℕ) : Type 0 where
@@ -40,6 +34,6 @@ pub record TwoFields (s : List ℕ) (from mid end : ℕ) : Type 0 where
   pub within : end < length s
   pub next : (ls : List Line) → signals_from ls s from ≡ (signal_line ls (slice from mid s ∷ slice (mid + 1) end s ∷ []) >>= λ y. signals_from y s (end + 1))
 
-abbrev pub LineFrom : List ℕ → ℕ → LineRead → Type 0
-LineFrom s from (Ends mid end) = TwoFields s from mid end
-LineFrom s from Wrong = (ls : List Line) → signals_from ls s from ≡ Refused 2
+abbrev pub LineFrom : List ℕ → ℕ → Option LineEnds → Type 0
+LineFrom s from (Some e) = TwoFields s from e.mid e.end
+LineFrom s from None = (ls : List Line) → signals_from ls s from ≡ Refused 2

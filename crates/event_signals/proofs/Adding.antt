@@ -1,4 +1,6 @@
 -- One line more of a bar's signals: refused, or kept behind those that are read. Assumes nothing.
+use Rattle.event_signals.specs.declared.SignalsError.TheVariants.{PastLimit, NotUtf8, Twice}
+use Rattle.std.specs.Prelude.{Option, None, Some, is_some, Ok, Err}
 use mathlib.Core.Path.{◌≡◌, ◌∙◌, sym, ap, ap₂}
 use mathlib.Core.Logic.{◌≢◌}
 use mathlib.Core.Bool.{true, false}
@@ -21,12 +23,10 @@ use Rattle.utf8.specs.Alone.{text, text_limit}
 use Rattle.event.specs.Signals.{Line, line_limit, has_key, signal_line, read_signals}
 use Rattle.event_find.specs.Places.{print, line_at, lines_at, LineOk}
 use Rattle.event_signals.specs.Read.{SignalsAs}
-use Rattle.event_find.specs.Steps.{FoundAt, Missing}
-use Rattle.event_line.specs.Fields.{signals_from, TwoFields, LineFrom}
+use Rattle.event_find.specs.Steps.{FoundAs}
+use Rattle.event_line.specs.Fields.{signals_from, TwoFields}
 use Rattle.event_signals.specs.Read.{Room}
 use Rattle.event_signals.specs.Steps.{Reading, Onward}
-use Rattle.event_line.specs.declared.LineRead.TheVariants.{Wrong}
-use Rattle.event_signals.specs.declared.SignalsRead.TheVariants.{Lines, PastLimit, NotUtf8, Malformed, Twice}
 use Rattle.event_find.proofs.Seek.{lines-length}
 
 -- ---- what a line of two fields adds: "12, count"
@@ -85,9 +85,10 @@ module _ (s starts mids : List ℕ) (n mid end : ℕ) where
 
 -- ---- `add_line`
 
--- the key as it is lent
-pub print_lent : {s : List ℕ} {from mid end h : ℕ} → TwoFields s from mid end → h ≡ print (slice from mid s) → h ≡ print (take (mid - from) (drop from s))
-print_lent {s} {from} {mid} f e = rw (part-size from mid s f.first) e
+-- whether some line has the key
+pub found-has : (k s starts mids : List ℕ) (n : ℕ) (r : Option ℕ) → FoundAs k s starts mids n r → has_key k (lines_at s starts mids n) ≡ is_some r
+found-has k s starts mids n (Some i) m = m.has
+found-has k s starts mids n None m = m.has
 
 module _ {s starts mids prints : List ℕ} {n from : ℕ} (g : Reading s starts mids prints n from) where
   abbrev lines : List Line
@@ -96,24 +97,21 @@ module _ {s starts mids prints : List ℕ} {n from : ℕ} (g : Reading s starts 
   size : length lines ≡ n
   size = lines-length s starts mids n
 
-  pub line_wrong : LineFrom s from Wrong → SignalsAs s starts mids prints Malformed
-  line_wrong w = record { is = sym (w lines) ∙ g.still; ok = tt }
-
   module _ {mid end : ℕ} (f : TwoFields s from mid end) where
     -- what the line makes of the whole
     whole : (a : Answer (List Line)) → signal_line lines (slice from mid s ∷ slice (mid + 1) end s ∷ []) ≡ a → (a >>= λ y. signals_from y s (end + 1)) ≡ read_signals s
     whole a e = ap (λ (b : Answer (List Line)). b >>= λ y. signals_from y s (end + 1)) (sym e) ∙ sym (f.next lines) ∙ g.still
 
-    pub line_twice : {i : ℕ} → FoundAt (take (mid - from) (drop from s)) s starts mids n i → SignalsAs s starts mids prints Twice
+    pub line_twice : has_key (take (mid - from) (drop from s)) lines ≡ true → SignalsAs s starts mids prints (Err Twice)
     line_twice m =
-        let has = rw (part-size from mid s f.first) at m.has in
+        let has = rw (part-size from mid s f.first) at m in
         record { is = whole (Refused 12) (adds_twice lines (slice from mid s) (slice (mid + 1) end s) has); ok = tt }
 
-    module _ (m : Missing (take (mid - from) (drop from s)) s starts mids n) where
+    module _ (m : has_key (take (mid - from) (drop from s)) lines ≡ false) where
       new : has_key (slice from mid s) lines ≡ false
-      new = rw (part-size from mid s f.first) at m.has
+      new = rw (part-size from mid s f.first) at m
 
-      pub line-past : n ≡ line_limit → SignalsAs s starts mids prints PastLimit
+      pub line-past : n ≡ line_limit → SignalsAs s starts mids prints (Err PastLimit)
       line-past e = record { is = whole (Refused 7) (adds_past lines (slice from mid s) (slice (mid + 1) end s) new (omega (arith, size))); ok = tt }
 
       module _ (q : n ≢ line_limit) where
@@ -172,13 +170,6 @@ module _ {s starts mids prints : List ℕ} {n from : ℕ} (g : Reading s starts 
 
 -- ---- `read_lines`
 
--- the loop's places are as long as they were
-pub record Walking (s starts₀ mids₀ prints₀ starts mids prints : List ℕ) (n i : ℕ) : Type 0 where
-  pub reading : Reading s starts mids prints n i
-  pub same-starts : length starts ≡ length starts₀
-  pub same_mids : length mids ≡ length mids₀
-  pub same_prints : length prints ≡ length prints₀
-
 module _ (s starts mids prints : List ℕ) (fine : text s ≡ Got tt) (room : Room starts mids prints) where
   signals-text : each_line signal_line [] (split LF s) ≡ read_signals s
   unfolding read_signals
@@ -199,17 +190,17 @@ module _ (s starts mids prints : List ℕ) (fine : text s ≡ Got tt) (room : Ro
     still = ap (λ t. each_line signal_line [] (split LF t)) (part_end 0 s) ∙ signals-text;
   }
 
-pub reading-last : {s starts mids prints : List ℕ} {n i : ℕ} → Reading s starts mids prints n i → length s ≤ i → SignalsAs s starts mids prints (Lines n)
+pub reading-last : {s starts mids prints : List ℕ} {n i : ℕ} → Reading s starts mids prints n i → length s ≤ i → SignalsAs s starts mids prints (Ok n)
 reading-last {s} {starts} {mids} {prints} {n} {i} g h = record { is = sym (lines_end signal_line (lines_at s starts mids n) s i h) ∙ g.still; ok = g.lines }
 
 -- ---- `read_signals`: "signals (7, 1, then per line ..)"
 
 module _ {s starts mids prints : List ℕ} where
-  pub signals-long : text_limit < length s → SignalsAs s starts mids prints PastLimit
+  pub signals-long : text_limit < length s → SignalsAs s starts mids prints (Err PastLimit)
   unfolding read_signals text
   signals-long h = record { is = rw (lt-leb (length s) text_limit h); ok = tt }
 
-  pub signals-bytes : length s ≤ text_limit → utf8 s ≡ false → SignalsAs s starts mids prints NotUtf8
+  pub signals-bytes : length s ≤ text_limit → utf8 s ≡ false → SignalsAs s starts mids prints (Err NotUtf8)
   unfolding read_signals text
   signals-bytes h e = record { is = rw (le-leb (length s) text_limit h, e); ok = tt }
 

@@ -2,7 +2,7 @@
 use Prim.Native.Nat.{ℕ, suc}
 use mathlib.Core.Bool.{Bool, true, false, cond, ◌||◌}
 use mathlib.Core.List.{List, [], ◌∷◌}
-use mathlib.Core.Option.{Option, none, some}
+use Rattle.std.specs.Prelude.{Option, None, Some}
 use mathlib.Core.Path.{◌≡◌, refl}
 use lib.Dec.{T, ltb, eqb}
 use lib.Ieee.{binary64, fits}
@@ -91,8 +91,8 @@ unfolding later_line
 later_gives s f = search (cond_gives, event_gives, clause_gives, wrong_gives) depth 12
 
 sheet_line_gives : (o : Option Sheet) (f : List (List ℕ)) → Gives Any (sheet_line o f)
-sheet_line_gives none f = search (loud, position_gives)
-sheet_line_gives (some s) f = search (loud, later_gives)
+sheet_line_gives None f = search (loud, position_gives)
+sheet_line_gives (Some s) f = search (loud, later_gives)
 
 pub compile_gives : (s table : List ℕ) → Gives Any (compile_do s table)
 unfolding compile_do read_sheet text
@@ -102,15 +102,15 @@ compile_gives s table = search (loud, lines_give sheet_line sheet_line_gives)
 
 -- a book made fresh, for as many bars as it has bytes for
 abbrev pub Cleared : List ℕ → List ℕ → Type 0
-Cleared b x = (c : ℕ) × (capacity b ≡ some c) × (x ≡ fresh_book c)
+Cleared b x = (c : ℕ) × (capacity b ≡ Some c) × (x ≡ fresh_book c)
 
 pub fresh_gives : (b : List ℕ) → Gives (Cleared b) (fresh_do b)
 unfolding fresh_do
 fresh_gives b = go (capacity b) refl
   where
     go : (o : Option ℕ) → capacity b ≡ o → Gives (Cleared b) (given 8 o >>= λ c. Got (fresh_book c))
-    go none e = refuses
-    go (some c) e = gives (c, e, refl)
+    go None e = refuses
+    go (Some c) e = gives (c, e, refl)
 
 pub feed_gives : (t b : List ℕ) (i : Input) → Gives Any (feed_do t b i)
 unfolding feed_do feed_on

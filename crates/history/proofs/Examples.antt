@@ -1,5 +1,6 @@
 -- Lists of calls, computed: what each call answers, which bars survive, and that the book at the end is that of the plain machine after them.
 -- Assumes nothing.
+use Rattle.std.specs.Prelude.{None}
 use Prim.Native.Nat.{ℕ}
 use mathlib.Core.Bool.{true}
 use mathlib.Core.List.{List, [], ◌∷◌, ◌++◌, map}
@@ -7,11 +8,11 @@ use mathlib.Core.Path.{◌≡◌, refl}
 use lib.IntN.{pos, negsuc}
 use lib.Ieee.{binary64, of_bits}
 use lib.ListN.{replicate}
+use Rattle.double.specs.declared.Yield.TheVariants.{Absent}
 use Rattle.le.specs.Le.{patch}
 use Rattle.text.specs.Answer.{Refused, Got, got_or}
 use Rattle.text.specs.Literal.{bytes}
 use Rattle.text.specs.Text.{same}
-use Rattle.double.specs.declared.Yield.TheVariants.{Absent}
 use Rattle.position.specs.Step.{plain}
 use Rattle.table.proofs.Examples.{soy, meant}
 use Rattle.book.specs.Layout.{records_of, encode}

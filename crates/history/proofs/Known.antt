@@ -1,12 +1,12 @@
 -- The survivors stay known while accepted feeds have the table and accepted restores the image of the save that they name. Assumes nothing.
+use Rattle.std.proofs.lemmas.Option.{same_Some, none-some}
 use Prim.Native.Nat.{ℕ, zero, suc}
 use mathlib.Core.Bool.{cond}
 use mathlib.Core.List.{List, [], ◌∷◌, map}
-use mathlib.Core.Option.{some, none-ne-some, some-injective}
+use Rattle.std.specs.Prelude.{Some, slice_get}
 use mathlib.Core.Path.{◌≡◌, refl, ap, ◌∙◌}
 use mathlib.Mathlib.Data.List.Defs.{Forall}
 use mathlib.Mathlib.Data.List.Basic.{Forall-cons}
-use lib.ListN.{get_elem?}
 use Rattle.text.specs.Answer.{Answer, Got, ◌>>=◌, number}
 use Rattle.text.specs.Text.{same}
 use Rattle.text.proofs.Same.{same_refl}
@@ -37,12 +37,12 @@ add-known Unknown a f e k = k
 add-known (Known fs) a f e k = rw e tt
 
 -- the image that save number k left
-saved_known : (k : ℕ) (image : List ℕ) (vs : List Saved) → Forall (λ v. IsKnown v.past) vs → get_elem? (map (λ v. v.image) vs) k ≡ some image
+saved_known : (k : ℕ) (image : List ℕ) (vs : List Saved) → Forall (λ v. IsKnown v.past) vs → slice_get (map (λ v. v.image) vs) k ≡ Some image
     → IsKnown (saved_as k image vs)
 unfolding saved_as
-saved_known k image [] h e = absurd (none-ne-some image e)
+saved_known k image [] h e = absurd (none-some image e)
 saved_known zero image (v ∷ vs) h e =
-    rw (some-injective v.image image e, same_refl image) ((Forall-cons (λ (v : Saved). IsKnown v.past) v vs).0 h).0
+    rw (same_Some v.image image e, same_refl image) ((Forall-cons (λ (v : Saved). IsKnown v.past) v vs).0 h).0
 saved_known (suc k) image (v ∷ vs) h e = saved_known k image vs ((Forall-cons (λ (v : Saved). IsKnown v.past) v vs).0 h).1 e
 
 module _ (table b : List ℕ) (l : Ledger) (is : List (List ℕ)) (k : Sure l is) where
@@ -82,7 +82,7 @@ module _ (table b : List ℕ) (l : Ledger) (is : List (List ℕ)) (k : Sure l is
   call_sure (Save t image) ours = noted (answered b (Save t image)).number (answered b (Save t image)).image
   call_sure (Restore t image j) ours =
       at (answered b (Restore t image j)).number (saved_as j image l.saves)
-      (λ e. saved_known j image l.saves k.saves (ap (λ (q : List (List ℕ)). get_elem? q j) k.left ∙ ours e))
+      (λ e. saved_known j image l.saves k.saves (ap (λ (q : List (List ℕ)). slice_get q j) k.left ∙ ours e))
   call_sure (Ask r) ours = k
 
 pub stays_known : (table b : List ℕ) (l : Ledger) (is : List (List ℕ)) (cs : List Call) → Sure l is → AllOurs table is (done_from b cs)

@@ -1,4 +1,5 @@
 -- No double of a row of a state that bars can reach is NaN. Assumes nothing.
+use Rattle.std.specs.Prelude.{Option, None, Some, Float}
 use mathlib.Core.Bool.{Bool, true, false, cond}
 use mathlib.Core.List.{List, [], ◌∷◌, map}
 use mathlib.Core.Path.{◌≡◌}
@@ -6,9 +7,9 @@ use mathlib.Mathlib.Data.List.Defs.{Forall}
 use mathlib.Mathlib.Data.List.Basic.{Forall-cons}
 use lib.Dec.{T}
 use lib.Ieee.Scale.{finite}
-use Rattle.double.specs.Double.{yield_ok}
 use Rattle.double.specs.declared.Yield.{Yield}
 use Rattle.double.specs.declared.Yield.TheVariants.{Absent, Bp}
+use Rattle.double.specs.Double.{yield_ok}
 use Rattle.double.proofs.Numbers.{pair_number, days-number}
 use Rattle.bar.specs.Time.{seconds_between}
 use Rattle.sheet.specs.Sheet.{Sheet}

@@ -2,7 +2,7 @@
 use Prim.Native.Nat.{ℕ, ◌+◌, ◌-◌, ◌*◌, ◌/◌}
 use mathlib.Core.Bool.{cond, ◌&&◌}
 use mathlib.Core.List.{List, [], ◌∷◌}
-use mathlib.Core.Option.{none, some}
+use Rattle.std.specs.Prelude.{None, Some}
 use mathlib.Core.Path.{◌≡◌, refl, ap, ◌∙◌}
 use lib.Dec.{leb, eqb}
 use lib.ListN.{length}
@@ -41,4 +41,4 @@ same_length b (c ∷ cs) = same_length (after b c) cs ∙ after-size b c
 -- C is by the length alone
 pub same-capacity : (a b : List ℕ) → length a ≡ length b → capacity a ≡ capacity b
 unfolding capacity
-same-capacity a b e = ap (λ (n : ℕ). let c = (n - 96) / 64 in cond (eqb n (96 + 64 * c) && leb 1 c && leb c bar_limit) (some c) none) e
+same-capacity a b e = ap (λ (n : ℕ). let c = (n - 96) / 64 in cond (eqb n (96 + 64 * c) && leb 1 c && leb c bar_limit) (Some c) None) e

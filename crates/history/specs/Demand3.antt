@@ -1,6 +1,5 @@
 -- Demand 3: "one claim about the whole list, not one for each call". Assumes nothing.
-use Rattle.std.specs.Prelude.{ℕ, ◌≤◌, Bool, true, not, ◌&&◌, List, [], ◌∷◌, map, ◌≡◌, T, ℤ, length}
-use Rattle.std.proofs.Math.Option.{some}
+use Rattle.std.specs.Prelude.{ℕ, ◌≤◌, Bool, true, not, ◌&&◌, List, [], ◌∷◌, map, ◌≡◌, T, ℤ, length, Some}
 use mathlib.Mathlib.Data.List.Defs.{Forall}
 use Rattle.std.specs.Float.{binary64}
 use Rattle.std.specs.Float.Ieee.{fits, is_nan}
@@ -36,7 +35,7 @@ pub record Kept (table : List ℕ) (s : Sheet) (lent : List ℕ) (fs : List Fed)
   -- its length and its C are those of the bytes that fresh was lent
   pub long : length b ≡ length lent
   pub bars : ℕ
-  pub sized : capacity lent ≡ some bars
+  pub sized : capacity lent ≡ Some bars
   -- "The book holds the machine's state after these alone", byte for byte
   pub state : b ≡ encode bars (plain s fs)
   -- H is the number of survivors, R that of the machine's records, and not above H

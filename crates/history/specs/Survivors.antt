@@ -1,7 +1,5 @@
 -- "By the calls' arguments and answers alone, the surviving bars and signals are": no definition here is given a book. Assumes nothing.
-use Rattle.std.specs.Prelude.{ℕ, zero, suc, cond, List, [], ◌∷◌, ◌++◌, ◌≡◌}
-use Rattle.std.proofs.Math.Option.{some}
-use Rattle.std.proofs.Math.ListN.{get_elem?}
+use Rattle.std.specs.Prelude.{ℕ, zero, suc, cond, List, [], ◌∷◌, ◌++◌, ◌≡◌, Some, slice_get}
 use Rattle.text.specs.Answer.{Answer, Refused, Got, ◌>>=◌}
 use Rattle.text.specs.Text.{same}
 use Rattle.position.specs.Step.{Fed}
@@ -79,7 +77,7 @@ Ours table is Fresh a = Unit {0}
 Ours table is (Feed t i) a = a.number ≡ 0 → t ≡ table
 Ours table is (FeedLine t line signals) a = a.number ≡ 0 → t ≡ table
 Ours table is (Save t image) a = Unit {0}
-Ours table is (Restore t image k) a = a.number ≡ 0 → get_elem? is k ≡ some image
+Ours table is (Restore t image k) a = a.number ≡ 0 → slice_get is k ≡ Some image
 Ours table is (Ask r) a = Unit {0}
 
 -- of all calls, where these images were left before

@@ -93,7 +93,3 @@ within t a b r p q =
 
 pub bound : (a b h : ℕ) → a < b + h → b ≤ a + h → mag (D a b) < h
 bound a b h p q = way a b (mag (D a b) < h) (λ k. rw (le-ltb a b k) (omega arith)) (λ k. rw (lt-ltb a b k) (omega arith))
-
-pub bounded : (z : ℤ) (h : ℕ) → mag z < h → (up z < h) × (down z ≤ h)
-bounded (pos n) h k = (k, omega arith)
-bounded (negsuc n) h k = (omega arith, k)

@@ -1,12 +1,13 @@
 -- Laws of `part`, `patch`, `le_bytes` and `le_nat`, for every width. Assumes nothing.
 use Prim.Native.Nat.{ℕ, zero, suc, ◌+◌, ◌-◌, ◌*◌, ◌/◌, ◌%◌, ◌^◌, ◌≤◌, ◌<◌}
-use native.Mathlib.Nat.{pow-suc, one-mul, mul_right_comm, add-sub_of_le, div-lt_iff_lt-mul}
+use native.Mathlib.Nat.{pow-suc, div-div-eq-div-mul, add-sub_of_le, div-lt_iff_lt-mul}
 use native.Mathlib.Numerals.{add-one, add-two, add-three}
 use native.Mathlib.Omega.{arith}
 use mathlib.Core.Path.{◌≡◌, refl, sym, ap, ap₂, ◌∙◌, subst}
 use mathlib.Core.List.{List, [], ◌∷◌, ◌++◌, append_assoc, append-nil}
 use lib.ListN.{length, take, drop, set, get_or, length-append, length-drop, take-append-drop, drop_of_length-le}
-use lib.Seq.{drop-cons, sets-eq, drop_at, drop-append-add, drop-drop, drop-append-le, take-append-le, take-append_seam, take_at, take-add, take_all, length-take-le}
+use lib.Seq.{drop-cons, sets-eq, drop_at, drop-append-add, drop-drop, drop-append-le, take-append-le, take-append_seam, take_at, take_all, length-take-le}
+use Rattle.std.specs.Int.{byte_at, bytes_low_first}
 use Rattle.le.specs.Le.{part, patch, le_bytes, le_nat}
 
 -- ---- a number by its bytes
@@ -25,74 +26,67 @@ le_nat-le_bytes (suc n) v h =
     let e : le_nat (le_bytes n (v / 256)) ≡ v / 256 = le_nat-le_bytes n (v / 256) k in
     omega arith
 
--- ---- reading and writing two and four
+-- the bytes that std writes
+bytes_from : (i k v : ℕ) → bytes_low_first i k v ≡ le_bytes k (v / 256 ^ i)
+unfolding le_bytes
+bytes_from i zero v = refl
+bytes_from i (suc k) v = ap₂ ◌∷◌ (byte i) (bytes_from (suc i) k v ∙ ap (le_bytes k) (sym (div-div-eq-div-mul v (256 ^ i) 256 ∙ rw pow-suc)))
+  where
+    byte : (i : ℕ) → byte_at i v ≡ v / 256 ^ i % 256
+    byte zero = omega arith
+    byte (suc i) = refl
+
+pub bytes-are : (k v : ℕ) → bytes_low_first 0 k v ≡ le_bytes k v
+bytes-are k v =
+    let e : v / 256 ^ 0 ≡ v = omega arith in
+    bytes_from 0 k v ∙ ap (le_bytes k) e
+
+-- ---- reading byte by byte
+
+-- the number of the n bytes of l from at + i on
+abbrev pub from_byte : List ℕ → ℕ → ℕ → ℕ → ℕ
+from_byte l at i zero = 0
+from_byte l at i (suc n) = get_or l (at + i) 0 + 256 * from_byte l at (suc i) n
+
+read_from : (l : List ℕ) (at i n : ℕ) → at + i + n ≤ length l → le_nat (part l (at + i) n) ≡ from_byte l at i n
+unfolding part le_nat
+read_from l at i zero h = refl
+read_from l at i (suc n) h =
+    let k : at + i < length l = omega arith in
+    let e : at + suc i ≡ suc (at + i) = omega arith in
+    let rest : le_nat (take n (drop (suc (at + i)) l)) ≡ from_byte l at (suc i) n = rw e at (read_from l at (suc i) n (omega arith)) in
+    rw (drop-cons l (at + i) 0, le_nat, rest)
+
+-- the first byte and the rest
+pub read-bytes : (l : List ℕ) (at n : ℕ) → at + suc n ≤ length l → le_nat (part l at (suc n)) ≡ get_or l at 0 + 256 * from_byte l at 1 n
+read-bytes l at n h =
+    let e : at + 0 ≡ at = omega arith in
+    rw e at (read_from l at 0 (suc n) (omega arith))
 
 pub two : (l : List ℕ) (at : ℕ) → at + 2 ≤ length l → get_or l at 0 + 256 * get_or l (at + 1) 0 ≡ le_nat (part l at 2)
-unfolding part le_nat
-two l at h =
-    let h0 : at < length l = omega arith in
-    let h1 : suc at < length l = omega arith in
-    rw (add-one, drop-cons l at 0, drop-cons l (suc at) 0) (omega arith)
+two l at h = omega (arith, read-bytes l at 1 h)
+
+pub four : (l : List ℕ) (at : ℕ) → at + 4 ≤ length l
+    → get_or l at 0 + 256 * (get_or l (at + 1) 0 + 256 * (get_or l (at + 2) 0 + 256 * get_or l (at + 3) 0)) ≡ le_nat (part l at 4)
+four l at h = omega (arith, read-bytes l at 3 h)
+
+-- ---- writing two and four
 
 pub put_two : (l : List ℕ) (at a b : ℕ) → at + 2 ≤ length l → set (set l at a) (at + 1) b ≡ patch l at (a ∷ b ∷ [])
 unfolding patch
 put_two l at a b h = rw add-one (sets-eq (a ∷ b ∷ []) l at h)
-
-pub four : (l : List ℕ) (at : ℕ) → at + 4 ≤ length l
-    → get_or l at 0 + 256 * (get_or l (at + 1) 0 + 256 * (get_or l (at + 2) 0 + 256 * get_or l (at + 3) 0)) ≡ le_nat (part l at 4)
-unfolding part le_nat
-four l at h =
-    let h0 : at < length l = omega arith in
-    let h1 : suc at < length l = omega arith in
-    let h2 : suc (suc at) < length l = omega arith in
-    let h3 : suc (suc (suc at)) < length l = omega arith in
-    rw (add-one, add-two, add-three, drop-cons l at 0, drop-cons l (suc at) 0, drop-cons l (suc (suc at)) 0, drop-cons l (suc (suc (suc at))) 0) (omega arith)
 
 pub put_four : (l : List ℕ) (at a b c d : ℕ) → at + 4 ≤ length l
     → set (set (set (set l at a) (at + 1) b) (at + 2) c) (at + 3) d ≡ patch l at (a ∷ b ∷ c ∷ d ∷ [])
 unfolding patch
 put_four l at a b c d h = rw (add-one, add-two, add-three) (sets-eq (a ∷ b ∷ c ∷ d ∷ []) l at h)
 
--- ---- eight, from twice four
-
-le_nat-append : (xs ys : List ℕ) → le_nat (xs ++ ys) ≡ le_nat xs + 256 ^ length xs * le_nat ys
-unfolding le_nat
-le_nat-append [] ys = rw one-mul (omega arith)
-le_nat-append (x ∷ xs) ys =
-    let e : le_nat (xs ++ ys) ≡ le_nat xs + 256 ^ length xs * le_nat ys = le_nat-append xs ys in
-    rw (e, pow-suc) (rest x (le_nat xs) (256 ^ length xs) (le_nat ys))
-  where
-    rest : (x a p y : ℕ) → x + 256 * (a + p * y) ≡ x + 256 * a + p * 256 * y
-    rest x a p y = rw (mul_right_comm p 256 y) (omega arith)
-
-pub eight : (l : List ℕ) (at : ℕ) → at + 8 ≤ length l → le_nat (part l at 4) + 4294967296 * le_nat (part l (at + 4) 4) ≡ le_nat (part l at 8)
-unfolding part
-eight l at h = sym (ap le_nat (take-add 4 4 (drop at l)) ∙ le_nat-append (take 4 (drop at l)) (take 4 (drop 4 (drop at l))) ∙ both)
-  where
-    n : length (take 4 (drop at l)) ≡ 4
-    n = length-take-le 4 (drop at l) (rw length-drop (omega arith))
-
-    both : le_nat (take 4 (drop at l)) + 256 ^ length (take 4 (drop at l)) * le_nat (take 4 (drop 4 (drop at l))) ≡ le_nat (take 4 (drop at l)) + 4294967296 * le_nat (take 4 (drop (at + 4) l))
-    both = rw (n, drop-drop)
-
-same_mod : (x y k : ℕ) → y ≡ x + 256 * k → x % 256 ≡ y % 256
-same_mod x y k h = omega arith
-
-eight_bytes : (v : ℕ) → le_bytes 4 (v % 4294967296) ++ le_bytes 4 (v / 4294967296) ≡ le_bytes 8 v
-unfolding le_bytes
-eight_bytes v =
-    let q = v / 4294967296 in
-    let r = v % 4294967296 in
-    let d0 : v ≡ r + 4294967296 * q = omega arith in
-    let d1 : v / 256 ≡ r / 256 + 16777216 * q = omega arith in
-    let d2 : v / 256 / 256 ≡ r / 256 / 256 + 65536 * q = omega arith in
-    let d3 : v / 256 / 256 / 256 ≡ r / 256 / 256 / 256 + 256 * q = omega arith in
-    let e0 : r % 256 ≡ v % 256 = same_mod r v (16777216 * q) (omega arith) in
-    let e1 : r / 256 % 256 ≡ v / 256 % 256 = same_mod (r / 256) (v / 256) (65536 * q) (omega arith) in
-    let e2 : r / 256 / 256 % 256 ≡ v / 256 / 256 % 256 = same_mod (r / 256 / 256) (v / 256 / 256) (256 * q) (omega arith) in
-    let e3 : r / 256 / 256 / 256 % 256 ≡ v / 256 / 256 / 256 % 256 = same_mod (r / 256 / 256 / 256) (v / 256 / 256 / 256) (1 * q) (omega arith) in
-    let e4 : v / 4294967296 ≡ v / 256 / 256 / 256 / 256 = omega arith in
-    rw (e3, e2, e1, e0, e4)
+-- a copy to the part that is lent from `at` on is a patch of the whole
+pub copied : (l q bs : List ℕ) (at n : ℕ) → q ≡ bs → length bs ≡ n → take at l ++ (q ++ drop (at + n - at) (drop at l)) ≡ patch l at bs
+unfolding patch
+copied l q bs at n e f =
+    let k : at + n - at ≡ length bs = omega (arith, f) in
+    rw (e, k, drop-drop (length bs) at l) (sym (append_assoc (take at l) bs (drop (at + length bs) l)))
 
 -- ---- a part after a patch
 
@@ -150,23 +144,6 @@ module _ (l : List ℕ) (at : ℕ) (xs ys : List ℕ) (h : at + length xs + leng
   pub patch-patch : patch (patch l at xs) (at + length xs) ys ≡ patch l at (xs ++ ys)
   unfolding patch
   patch-patch = rw (tail_is, take_at (take at l ++ xs) (drop (at + length xs) l) (at + length xs) front, append_assoc (take at l) xs ys)
-
-pub put_eight : (l a b : List ℕ) (at v : ℕ) → at + 8 ≤ length l → a ≡ patch l at (le_bytes 4 (v % 4294967296)) → b ≡ patch a (at + 4) (le_bytes 4 (v / 4294967296)) → b ≡ patch l at (le_bytes 8 v)
-put_eight l a b at v h p q =
-    q ∙ ap₂ (λ (x : List ℕ) (k : ℕ). patch x (at + k) ys) p (sym n)
-    ∙ patch-patch l at xs ys room ∙ ap (patch l at) (eight_bytes v)
-  where
-    xs : List ℕ
-    xs = le_bytes 4 (v % 4294967296)
-
-    ys : List ℕ
-    ys = le_bytes 4 (v / 4294967296)
-
-    n : length xs ≡ 4
-    n = length-le_bytes 4 (v % 4294967296)
-
-    room : at + length xs + length ys ≤ length l
-    room = omega (arith, n, length-le_bytes 4 (v / 4294967296))
 
 -- ---- what is read after a write is what was written
 

@@ -19,7 +19,7 @@ pub fn get_u16(s: &[u8], at: usize) -> u16
     requires { at + 2 ≤ length s.now }
     ensures { result ≡ le_nat (part s.now at 2) }
 {
-    (wide(s[at]) + 256 * wide(s[at + 1])) as u16
+    u16::from_le_bytes([s[at], s[at + 1]])
 }
 
 // Writes a u16 from `at` on.
@@ -27,10 +27,7 @@ pub fn put_u16(s: &mut [u8], at: usize, v: u16)
     requires { at + 2 ≤ length s.old }
     ensures { s.new ≡ patch s.old at (le_bytes 2 v) }
 {
-    let low = (v % 256) as u8;
-    let high = (v / 256) as u8;
-    s[at] = low;
-    s[at + 1] = high;
+    s[at..at + 2].copy_from_slice(&v.to_le_bytes());
 }
 
 // The u32 that starts at `at`.
@@ -38,7 +35,7 @@ pub fn get_u32(s: &[u8], at: usize) -> u32
     requires { at + 4 ≤ length s.now }
     ensures { result ≡ le_nat (part s.now at 4) }
 {
-    wide(s[at]) + 256 * (wide(s[at + 1]) + 256 * (wide(s[at + 2]) + 256 * wide(s[at + 3])))
+    u32::from_le_bytes([s[at], s[at + 1], s[at + 2], s[at + 3]])
 }
 
 // Writes a u32 from `at` on.
@@ -46,54 +43,7 @@ pub fn put_u32(s: &mut [u8], at: usize, v: u32)
     requires { at + 4 ≤ length s.old }
     ensures { s.new ≡ patch s.old at (le_bytes 4 v) }
 {
-    s[at] = (v % 256) as u8;
-    s[at + 1] = (v / 256 % 256) as u8;
-    s[at + 2] = (v / 65536 % 256) as u8;
-    s[at + 3] = (v / 16777216 % 256) as u8;
-}
-
-// The i32 that the bits stand for.
-pub fn to_i32(b: u32) -> i32
-    ensures { result ≡ signed 31 b }
-{
-    if b < 2147483648 {
-        b as i32
-    } else {
-        -1 - ((4294967295 - b) as i32)
-    }
-}
-
-// The bits of an i32.
-pub fn of_i32(v: i32) -> u32
-    ensures { result ≡ sign_bits 31 v }
-{
-    if v < 0 {
-        4294967295 - ((-1 - v) as u32)
-    } else {
-        v as u32
-    }
-}
-
-// The i64 that the bits stand for.
-pub fn to_i64(b: u64) -> i64
-    ensures { result ≡ signed 63 b }
-{
-    if b < 9223372036854775808 {
-        b as i64
-    } else {
-        -1 - ((18446744073709551615 - b) as i64)
-    }
-}
-
-// The bits of an i64.
-pub fn of_i64(v: i64) -> u64
-    ensures { result ≡ sign_bits 63 v }
-{
-    if v < 0 {
-        18446744073709551615 - ((-1 - v) as u64)
-    } else {
-        v as u64
-    }
+    s[at..at + 4].copy_from_slice(&v.to_le_bytes());
 }
 
 // The i32 that starts at `at`.
@@ -101,7 +51,7 @@ pub fn get_i32(s: &[u8], at: usize) -> i32
     requires { at + 4 ≤ length s.now }
     ensures { result ≡ signed 31 (le_nat (part s.now at 4)) }
 {
-    to_i32(get_u32(s, at))
+    get_u32(s, at).cast_signed()
 }
 
 // Writes an i32 from `at` on.
@@ -109,7 +59,7 @@ pub fn put_i32(s: &mut [u8], at: usize, v: i32)
     requires { at + 4 ≤ length s.old }
     ensures { s.new ≡ patch s.old at (le_bytes 4 (sign_bits 31 v)) }
 {
-    put_u32(s, at, of_i32(v));
+    put_u32(s, at, v.cast_unsigned());
 }
 
 // The u64 that starts at `at`.
@@ -117,9 +67,16 @@ pub fn get_u64(s: &[u8], at: usize) -> u64
     requires { at + 8 ≤ length s.now }
     ensures { result ≡ le_nat (part s.now at 8) }
 {
-    let low = get_u32(s, at);
-    let high = get_u32(s, at + 4);
-    low as u64 + 4294967296 * (high as u64)
+    u64::from_le_bytes([
+        s[at],
+        s[at + 1],
+        s[at + 2],
+        s[at + 3],
+        s[at + 4],
+        s[at + 5],
+        s[at + 6],
+        s[at + 7],
+    ])
 }
 
 // Writes a u64 from `at` on.
@@ -127,8 +84,14 @@ pub fn put_u64(s: &mut [u8], at: usize, v: u64)
     requires { at + 8 ≤ length s.old }
     ensures { s.new ≡ patch s.old at (le_bytes 8 v) }
 {
-    put_u32(s, at, (v % 4294967296) as u32);
-    put_u32(s, at + 4, (v / 4294967296) as u32);
+    s[at..at + 8].copy_from_slice(&v.to_le_bytes());
+}
+
+// The i64 that the bits stand for.
+pub fn to_i64(b: u64) -> i64
+    ensures { result ≡ signed 63 b }
+{
+    b.cast_signed()
 }
 
 // The i64 that starts at `at`.
@@ -144,36 +107,30 @@ pub fn put_i64(s: &mut [u8], at: usize, v: i64)
     requires { at + 8 ≤ length s.old }
     ensures { s.new ≡ patch s.old at (le_bytes 8 (sign_bits 63 v)) }
 {
-    put_u64(s, at, of_i64(v));
+    put_u64(s, at, v.cast_unsigned());
 }
 
-// Whether the bits are a NaN's.
+// Whether the bits are a NaN's: without the sign they are above infinity's.
 pub fn is_nan_bits(b: u64) -> bool
     ensures { result ≡ nan_bits binary64 b }
 {
-    9218868437227405312 < b % 9223372036854775808
-}
-
-// What 64 bits hold: a double, or a NaN's pattern.
-#[derive(Clone, Copy)]
-pub enum Real {
-    Value(f64),
-    Nan,
+    0x7ff0_0000_0000_0000 < b % 0x8000_0000_0000_0000
 }
 
 // What the bits hold.
-pub fn real_of(b: u64) -> Real
+#[tactic(auto, unfolding(crate::specs::Real::real_of))]
+pub fn real_of(b: u64) -> Option<f64>
     ensures { result ≡ real_of b }
 {
     if is_nan_bits(b) {
-        Real::Nan
+        None
     } else {
-        Real::Value(f64::from_bits(b))
+        Some(f64::from_bits(b))
     }
 }
 
 // What the eight bytes from `at` on hold.
-pub fn get_f64(s: &[u8], at: usize) -> Real
+pub fn get_f64(s: &[u8], at: usize) -> Option<f64>
     requires { at + 8 ≤ length s.now }
     ensures { result ≡ real_of (le_nat (part s.now at 8)) }
 {
@@ -185,5 +142,5 @@ pub fn put_f64(s: &mut [u8], at: usize, x: f64)
     requires { (at + 8 ≤ length s.old) × (T (not (is_nan x))) }
     ensures { s.new ≡ patch s.old at (le_bytes 8 (to_bits binary64 x)) }
 {
-    put_u64(s, at, f64::to_bits(x));
+    put_u64(s, at, x.to_bits());
 }

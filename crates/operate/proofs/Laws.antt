@@ -2,17 +2,21 @@
 use mathlib.Core.Path.{◌≡◌, ◌∙◌, refl, sym, ap}
 use mathlib.Core.Bool.{Bool, true, false, cond, ◌||◌}
 use mathlib.Core.List.{List, [], ◌∷◌}
-use mathlib.Core.Option.{none, some}
+use Rattle.std.specs.Prelude.{Some}
+use Rattle.std.proofs.lemmas.Option.{slice_get_past, slice_get-get_or}
 use Prim.Native.Nat.{ℕ, zero, suc, ◌+◌, ◌≤◌, ◌<◌}
 use native.Mathlib.Omega.{arith}
 use native.Mathlib.Numerals.{add-one}
-use borrow.Author.Tests.{lt-ltb, le-ltb}
-use lib.ListN.{length, get_or, get_elem?, drop, drop_of_length-le}
-use lib.Seq.{slice, take-length, drop-cons}
+use lib.Pointwise.{pointwise}
+use lib.Dec.{eqb}
+use lib.ListN.{length, get_or, drop, drop_of_length-le}
+use lib.Seq.{drop-cons}
 use Rattle.text.specs.Answer.{Refused, Got, given}
 use Rattle.text.specs.Text.{same}
-use Rattle.operate.specs.Operate.{latin, chinese, known, code_from, operate_of, operate_name}
-use Rattle.operate.specs.Read.{Name}
+use Rattle.operate.specs.Operate.{latin, chinese, code_from, operate_of, operate_name}
+use Rattle.operate.specs.declared.Operate.{Operate}
+use Rattle.operate.specs.declared.Operate.TheVariants.{HL, HS, HO, LO, LE, SO, SE}
+use Rattle.operate.specs.Read.{code_of, Name}
 
 -- ---- names and codes
 
@@ -24,54 +28,43 @@ seven_chinese : length chinese ≡ 7
 unfolding chinese
 seven_chinese = refl
 
-four : (n : ℕ) → (n ≡ 0 → ⊥) → (n ≡ 1 → ⊥) → (n ≡ 2 → ⊥) → (n ≡ 3 → ⊥) → 4 ≤ n
-four n a b c d = omega arith
+-- each operate, in the order of the codes
+abbrev pub all : List Operate
+all = HL ∷ HS ∷ HO ∷ LO ∷ LE ∷ SO ∷ SE ∷ []
 
-three_more : (n : ℕ) → 4 ≤ n → (n ≡ 4 → ⊥) → (n ≡ 5 → ⊥) → (n ≡ 6 → ⊥) → 7 ≤ n
-three_more n l a b c = omega arith
-
--- a code that is none of the seven, as the last arm of a match has it
-pub past_arms : (n : ℕ)
-    → (((((((Unit {0} × (n ≡ 0 → ⊥)) × (n ≡ 1 → ⊥)) × (n ≡ 2 → ⊥)) × (n ≡ 3 → ⊥)) × (n ≡ 4 → ⊥)) × (n ≡ 5 → ⊥)) × (n ≡ 6 → ⊥))
-    → 7 ≤ n
-past_arms n r = three_more n (four n r.0.0.0.0.0.0.1 r.0.0.0.0.0.1 r.0.0.0.0.1 r.0.0.0.1) r.0.0.1 r.0.1 r.1
+pub code_at : (i : ℕ) → i < 7 → code_of (get_or all i HL) ≡ i
+code_at zero h = refl
+code_at (suc zero) h = refl
+code_at (suc (suc zero)) h = refl
+code_at (suc (suc (suc zero))) h = refl
+code_at (suc (suc (suc (suc zero)))) h = refl
+code_at (suc (suc (suc (suc (suc zero))))) h = refl
+code_at (suc (suc (suc (suc (suc (suc zero)))))) h = refl
+code_at (suc (suc (suc (suc (suc (suc (suc i))))))) h = absurd (omega arith)
 
 -- the name at a code that is known to be i
 pub at : (names : List (List ℕ)) (n i : ℕ) {r : List ℕ} (code : ℕ) → code ≡ i → r ≡ get_or names i [] → n ≡ length r → Name (get_or names code []) n r
 at names n i code e h k = record { is = rw e h; size = k }
 
-pub known_is : (code : ℕ) → code < 7 → Got code ≡ known code
-unfolding known
-known_is code h = rw (lt-ltb code 7 h)
-
-pub known_at : (i code : ℕ) → code ≡ i → code < 7 → Got i ≡ known code
-known_at i code e h = ap Got (sym e) ∙ known_is code h
-
-pub known-not : (code : ℕ) → 7 ≤ code → Refused 4 ≡ known code
-unfolding known
-known-not code h = rw (le-ltb code 7 h)
-
 pub name-none : (code : ℕ) → 7 ≤ code → Refused 4 ≡ operate_name code
 unfolding operate_name
-name-none code h = rw (past chinese code (omega (arith, seven_chinese)))
-  where
-    past : (l : List (List ℕ)) (i : ℕ) → length l ≤ i → get_elem? l i ≡ none
-    past [] i h = refl
-    past (x ∷ l) zero h = absurd (omega arith)
-    past (x ∷ l) (suc i) h = past l i (omega arith)
+name-none code h = rw (slice_get_past chinese code (omega (arith, seven_chinese)))
 
 pub name-is : (code : ℕ) → code < 7 → Got (get_or chinese code []) ≡ operate_name code
 unfolding operate_name
-name-is code h = rw (found chinese code (omega (arith, seven_chinese)))
-  where
-    found : (l : List (List ℕ)) (i : ℕ) → i < length l → get_elem? l i ≡ some (get_or l i [])
-    found [] i h = absurd (omega arith)
-    found (x ∷ l) zero h = refl
-    found (x ∷ l) (suc i) h = found l i (omega arith)
+name-is code h = rw (slice_get-get_or chinese code [] (omega (arith, seven_chinese)))
 
--- the whole of a text compared with the array of a name
-pub compared : (s : List ℕ) {name r : List ℕ} {n : ℕ} → Name name n r → same (slice 0 (length s) s) (slice 0 n r) ≡ same s name
-compared s {name} {r} {n} h = rw (take-length s, h.size, take-length r, h.is)
+-- `==` on slices is `same`
+same_pointwise : (s t : List ℕ) → pointwise eqb s t ≡ same s t
+unfolding same
+same_pointwise [] [] = refl
+same_pointwise [] (y ∷ t) = refl
+same_pointwise (x ∷ s) [] = refl
+same_pointwise (x ∷ s) (y ∷ t) = rw (same_pointwise s t)
+
+-- a text compared with the array r of a name
+pub compared : (s : List ℕ) {name r t : List ℕ} {n : ℕ} {b : Bool} → b ≡ pointwise eqb s t → t ≡ r → Name name n r → b ≡ same s name
+compared s {name} e k h = e ∙ rw (k, h.is) (same_pointwise s name)
 
 pub either_first : {a : Bool} (b : Bool) → true ≡ a → true ≡ a || b
 either_first b e = ap (λ x. x || b) e
@@ -95,12 +88,12 @@ seeking_first s = record { le = omega arith; rest = refl }
 
 module _ {s : List ℕ} {code : ℕ} (k : Seeking s code) where
   module _ (h : code < 7) where
-    here : operate_of s ≡ given 4 (cond (spelled s code) (some code) (code_from (suc code) s (drop (suc code) latin) (drop (suc code) chinese)))
+    here : operate_of s ≡ given 4 (cond (spelled s code) (Some code) (code_from (suc code) s (drop (suc code) latin) (drop (suc code) chinese)))
     unfolding code_from
     here = k.rest ∙ rw (drop-cons latin code [] (omega (arith, seven_latin)), drop-cons chinese code [] (omega (arith, seven_chinese)))
 
-    pub seeking_hit : spelled s code ≡ true → known code ≡ operate_of s
-    seeking_hit e = sym (known_is code h) ∙ sym (here ∙ rw e)
+    pub seeking_hit : spelled s code ≡ true → Got code ≡ operate_of s
+    seeking_hit e = sym (here ∙ rw e)
 
     pub seeking_more : spelled s code ≡ false → Seeking s (code + 1)
     seeking_more e = record { le = omega arith; rest = here ∙ rw (e, add-one) }

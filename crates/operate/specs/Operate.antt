@@ -1,8 +1,6 @@
 -- Operates: codes 0 to 6, each with two spellings. Assumes nothing.
-use Rattle.std.specs.Prelude.{ℕ, suc, cond, ◌||◌, List, [], ◌∷◌, ltb}
-use Rattle.std.proofs.Math.Option.{Option, none, some}
-use Rattle.std.proofs.Math.ListN.{get_elem?}
-use Rattle.text.specs.Answer.{Answer, Refused, Got, ◌>>=◌, given}
+use Rattle.std.specs.Prelude.{ℕ, suc, cond, ◌||◌, List, [], ◌∷◌, Option, None, Some, slice_get}
+use Rattle.text.specs.Answer.{Answer, ◌>>=◌, given}
 use Rattle.text.specs.Literal.{bytes}
 use Rattle.text.specs.Text.{same}
 use Rattle.utf8.specs.Alone.{alone}
@@ -32,9 +30,9 @@ SE = 6
 
 -- the first code from k on whose spellings, of which the lists hold the rest, have s among them
 unfoldable pub code_from : ℕ → List ℕ → List (List ℕ) → List (List ℕ) → Option ℕ
-code_from k s [] cs = none
-code_from k s (l ∷ ls) [] = none
-code_from k s (l ∷ ls) (c ∷ cs) = cond (same s l || same s c) (some k) (code_from (suc k) s ls cs)
+code_from k s [] cs = None
+code_from k s (l ∷ ls) [] = None
+code_from k s (l ∷ ls) (c ∷ cs) = cond (same s l || same s c) (Some k) (code_from (suc k) s ls cs)
 
 -- "either spelling becomes the code"; "case counts"; any other text: 4
 unfoldable pub operate_of : List ℕ → Answer ℕ
@@ -46,10 +44,6 @@ operate_alone s = do
   _ ← alone s
   operate_of s
 
--- a code, or 4 for any other number
-unfoldable pub known : ℕ → Answer ℕ
-known n = cond (ltb n 7) (Got n) (Refused 4)
-
 -- "An operate code becomes its Chinese name (any other number: 4)"
 unfoldable pub operate_name : ℕ → Answer (List ℕ)
-operate_name code = given 4 (get_elem? chinese code)
+operate_name code = given 4 (slice_get chinese code)

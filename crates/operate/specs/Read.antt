@@ -1,12 +1,10 @@
 -- What the code's answers mean. Assumes nothing.
-use Rattle.std.specs.Prelude.{ℕ, ◌≡◌, List, length}
+use Rattle.operate.specs.declared.OperateError.{OperateError}
+use Rattle.utf8_text.specs.Read.{alone_refusal}
+use Rattle.std.specs.Prelude.{ℕ, ◌≡◌, List, length, Option, Some, None, Result, Ok, Err}
 use Rattle.text.specs.Answer.{Answer, Refused, Got}
 use Rattle.operate.specs.declared.Operate.{Operate}
 use Rattle.operate.specs.declared.Operate.TheVariants.{HL, HS, HO, LO, LE, SO, SE}
-use Rattle.operate.specs.declared.OperateRead.{OperateRead}
-use Rattle.operate.specs.declared.OperateRead.TheVariants.{Is, Unknown}
-use Rattle.operate.specs.declared.OperateAlone.{OperateAlone}
-use Rattle.operate.specs.declared.OperateAlone.TheVariants.{Named, TooLong, NotUtf8, Marked, Unnamed}
 
 -- "codes 0 to 6"
 abbrev pub code_of : Operate → ℕ
@@ -19,16 +17,17 @@ code_of SO = 5
 code_of SE = 6
 
 -- the number and the code of each answer
-abbrev pub read_of : OperateRead → Answer ℕ
-read_of (Is o) = Got (code_of o)
-read_of Unknown = Refused 4
+abbrev pub read_of : Option Operate → Answer ℕ
+read_of (Some o) = Got (code_of o)
+read_of None = Refused 4
 
-abbrev pub alone_of : OperateAlone → Answer ℕ
-alone_of (Named o) = Got (code_of o)
-alone_of TooLong = Refused 7
-alone_of NotUtf8 = Refused 1
-alone_of Marked = Refused 2
-alone_of Unnamed = Refused 4
+abbrev pub operate_refusal : OperateError → ℕ
+operate_refusal (OperateError.Text e) = alone_refusal e
+operate_refusal OperateError.Unnamed = 4
+
+abbrev pub alone_of : Result Operate OperateError → Answer ℕ
+alone_of (Ok o) = Got (code_of o)
+alone_of (Err e) = Refused (operate_refusal e)
 
 -- the array r holds the n bytes of a name
 pub record Name (name : List ℕ) (n : ℕ) (r : List ℕ) : Type 0 where

@@ -6,7 +6,7 @@ use Rattle.std.specs.Float.Ieee.{neg}
 use Rattle.text.specs.Answer.{Answer, Refused, Got}
 use Rattle.text.specs.Literal.{bytes}
 use Rattle.double.specs.Double.{whole, ◌÷◌, round_away}
-use Rattle.operate.specs.Operate.{LO, LE, SO, SE}
+use Rattle.operate.specs.Operate.{LO, LE}
 use Rattle.sheet.specs.Sheet.{Sheet}
 use Rattle.position.specs.State.{State, fresh_state}
 use Rattle.position.specs.Feed.{Input, feed_state}

@@ -1,16 +1,13 @@
 -- Pair rows and hold rows of the plain machine. Assumes nothing.
-use Rattle.std.specs.Prelude.{ℕ, Bool, cond, ◌||◌, List, [], ◌∷◌, ◌++◌, map, eqb, ℤ, Float, get_or}
-use Rattle.std.proofs.Math.Option.{Option, none, some}
+use Rattle.std.specs.Prelude.{ℕ, Bool, cond, ◌||◌, List, [], ◌∷◌, ◌++◌, map, eqb, ℤ, Float, get_or, Option, None, Some, slice_get}
 use Rattle.std.proofs.Math.IntN.{sub_ℕ}
-use Rattle.std.proofs.Math.ListN.{get_elem?}
+use Rattle.double.specs.declared.Yield.{Yield}
 use Rattle.text.specs.Literal.{bytes}
 use Rattle.text.specs.Text.{has, begins}
 use Rattle.text.specs.Number.{decimal_of}
 use Rattle.stop.specs.Stop.{stop_text}
 use Rattle.double.specs.Double.{days_of, pair_yield}
 use Rattle.double.specs.declared.Side.{Side}
-use Rattle.double.specs.declared.Side.TheVariants as Side
-use Rattle.double.specs.declared.Yield.{Yield}
 use Rattle.operate.specs.Operate.{LO, LE, SO, SE, latin, chinese}
 use Rattle.bar.specs.Time.{seconds_between}
 use Rattle.bar.specs.Bar.{local_of}
@@ -26,12 +23,12 @@ use Rattle.position.specs.declared.HoldRow.{HoldRow}
 -- ---- the sequence text
 
 abbrev pub name_in : Option Event → List ℕ
-name_in none = []
-name_in (some e) = e.name
+name_in None = []
+name_in (Some e) = e.name
 
 -- the name of the event with that index
 abbrev pub event_name : Sheet → ℕ → List ℕ
-event_name s i = name_in (get_elem? s.events i)
+event_name s i = name_in (slice_get s.events i)
 
 -- "平多 .. (平空 for SE)"
 abbrev pub close_name : ℕ → List ℕ

@@ -1,17 +1,15 @@
 -- The run program: from the bytes of its input to the bytes of its output. Assumes nothing.
-use Rattle.std.specs.Prelude.{ℕ, Bool, true, false, cond, ◌&&◌, leb, eqb, Float, length, get_or}
+use Rattle.std.specs.Prelude.{ℕ, Bool, true, false, cond, ◌&&◌, leb, eqb, Float, length, get_or, Option, None, Some}
 use mathlib.Core.List.{List, [], ◌∷◌, ◌++◌, flat_map}
-use Rattle.std.proofs.Math.Option.{Option, none, some}
 use Rattle.std.specs.Float.{binary64}
 use Rattle.std.specs.Float.Ieee.{of_bits, to_bits}
+use Rattle.double.specs.declared.Yield.{Yield}
+use Rattle.double.specs.declared.Yield.TheVariants.{Absent, Bp}
 use Rattle.text.specs.Answer.{Answer, Refused, Got, ◌>>=◌, must, given, number}
 use Rattle.text.specs.Literal.{bytes}
 use Rattle.text.specs.Text.{same, split, joined, each_line, LF, pipe}
 use Rattle.text.specs.Number.{digits_to, plus, signed_to, bits_of, decimal_of, integer_of, hex_of}
 use Rattle.double.specs.declared.Side.{Side}
-use Rattle.double.specs.declared.Side.TheVariants as Side
-use Rattle.double.specs.declared.Yield.{Yield}
-use Rattle.double.specs.declared.Yield.TheVariants.{Absent, Bp}
 use Rattle.sheet.specs.Sheet.{Sheet}
 use Rattle.sheet.specs.Read.{read_sheet}
 use Rattle.position.specs.State.{State, fresh_state, pos_sign}
@@ -34,14 +32,14 @@ pub record Cut : Type 0 where
   pub bars : List (List ℕ)
 
 abbrev pub behind : List ℕ → Option Cut → Option Cut
-behind p none = none
-behind p (some c) = some (record { sheet = p ∷ c.sheet; bars = c.bars })
+behind p None = None
+behind p (Some c) = Some (record { sheet = p ∷ c.sheet; bars = c.bars })
 
 -- the last part has no LF behind it, so it is no line `-`
 unfoldable pub cut : List (List ℕ) → Option Cut
-cut [] = none
-cut (p ∷ []) = none
-cut (p ∷ q ∷ ps) = cond (same p (bytes "-")) (some (record { sheet = []; bars = q ∷ ps })) (behind p (cut (q ∷ ps)))
+cut [] = None
+cut (p ∷ []) = None
+cut (p ∷ q ∷ ps) = cond (same p (bytes "-")) (Some (record { sheet = []; bars = q ∷ ps })) (behind p (cut (q ∷ ps)))
 
 -- the lines, each with its LF
 unfoldable pub ended : List (List ℕ) → List ℕ

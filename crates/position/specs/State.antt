@@ -1,14 +1,11 @@
 -- The state of the plain machine. "State: pos (fresh: Flat), changed (fresh: no), end, last long open, last short open, reference, records, holds."
 -- Assumes nothing.
-use Rattle.std.specs.Prelude.{ℕ, Bool, true, false, ◌||◌, List, [], eqb, ℤ, pos, negsuc}
+use Rattle.std.specs.Prelude.{ℕ, Bool, true, false, ◌||◌, List, [], eqb, ℤ, pos, negsuc, Option, None, Some}
 use Rattle.operate.specs.Operate.{LO, LE, SO, SE}
 use Rattle.bar.specs.Bar.{time_ok}
 use Rattle.bar.specs.declared.Time.{Time}
 use Rattle.position.specs.declared.Pos.{Pos}
 use Rattle.position.specs.declared.Pos.TheVariants.{Short, Flat, Long}
-use Rattle.position.specs.declared.Open.{Open}
-use Rattle.position.specs.declared.Open.TheVariants as Open
-use Rattle.position.specs.declared.Reference.TheVariants as Reference
 use Rattle.position.specs.declared.Head.{Head}
 use Rattle.position.specs.declared.Record.{Record}
 use Rattle.position.specs.declared.Hold.{Hold}
@@ -23,15 +20,15 @@ abbrev pub no_time : Time
 no_time = record { instant = record { 0 = pos 0 }; offset = pos 0 }
 
 unfoldable pub fresh_head : Head
-fresh_head = record { pos = Flat; changed = false; end = no_time; long = Open.Never; short = Open.Never; reference = Reference.Never }
+fresh_head = record { pos = Flat; changed = false; end = no_time; long = None; short = None; reference = None }
 
 unfoldable pub fresh_state : State
 fresh_state = record { head = fresh_head; records = []; holds = [] }
 
 -- a stored open's time is in range
-abbrev pub open_in_range : Open → Bool
-open_in_range Open.Never = true
-open_in_range (Open.At t) = time_ok t
+abbrev pub open_in_range : Option Time → Bool
+open_in_range None = true
+open_in_range (Some t) = time_ok t
 
 -- "(0 Short, 1 Flat, 2 Long)"
 abbrev pub pos_code : Pos → ℕ

@@ -1,12 +1,10 @@
 -- The plain machine: what each accepted bar does, in seven steps. Steps 3 and 4, and steps 5 and 6, are one rule each, given the side. Assumes nothing.
-use Rattle.std.specs.Prelude.{ℕ, ◌-◌, Bool, true, false, not, cond, ◌&&◌, ◌||◌, List, [], ◌∷◌, ◌++◌, ltb, eqb, ℤ, pos, negsuc, Float}
-use Rattle.std.proofs.Math.Option.{Option, none, some}
+use Rattle.std.specs.Prelude.{ℕ, ◌-◌, Bool, true, false, not, cond, ◌&&◌, ◌||◌, List, [], ◌∷◌, ◌++◌, ltb, eqb, ℤ, pos, negsuc, Float, Option, None, Some, slice_get}
 use Rattle.std.specs.Int.Signed.{lt_z}
-use Rattle.std.proofs.Math.ListN.{get_elem?}
+use Rattle.double.specs.declared.Yield.TheVariants.{Absent}
+use Rattle.bar.specs.declared.Time.{Time}
 use Rattle.double.specs.Double.{hold_yield, stop_hit}
 use Rattle.double.specs.declared.Side.{Side}
-use Rattle.double.specs.declared.Side.TheVariants as Side
-use Rattle.double.specs.declared.Yield.TheVariants.{Absent}
 use Rattle.stop.specs.Stop.{stop_double}
 use Rattle.operate.specs.Operate.{HO, LO, LE, SO, SE}
 use Rattle.bar.specs.Time.{seconds_between}
@@ -18,19 +16,13 @@ use Rattle.event.specs.Match.{first_match}
 use Rattle.position.specs.State.{State, fresh_state}
 use Rattle.position.specs.declared.Pos.{Pos}
 use Rattle.position.specs.declared.Pos.TheVariants.{Short, Flat, Long}
-use Rattle.position.specs.declared.Open.{Open}
-use Rattle.position.specs.declared.Open.TheVariants as Open
 use Rattle.position.specs.declared.LastEvent.{LastEvent}
 use Rattle.position.specs.declared.Choice.{Choice}
-use Rattle.position.specs.declared.Reference.{Reference}
-use Rattle.position.specs.declared.Reference.TheVariants as Reference
 use Rattle.position.specs.declared.Head.{Head}
 use Rattle.position.specs.declared.Description.{Description}
 use Rattle.position.specs.declared.Description.TheVariants.{Event as ByEvent, Stop, Timeout}
 use Rattle.position.specs.declared.Record.{Record}
 use Rattle.position.specs.declared.Hold.{Hold}
-use Rattle.position.specs.declared.Decision.{Decision}
-use Rattle.position.specs.declared.Decision.TheVariants.{Nothing, By}
 
 -- ---- the two sides
 
@@ -59,7 +51,7 @@ on Side.Short Long = false
 on Side.Short Flat = false
 on Side.Short Short = true
 
-abbrev pub last_open : Side → Head → Open
+abbrev pub last_open : Side → Head → Option Time
 last_open Side.Long h = h.long
 last_open Side.Short h = h.short
 
@@ -67,12 +59,12 @@ last_open Side.Short h = h.short
 
 -- "Choose an event: its operate and name; none gives HO." An event's name is had by its index.
 abbrev pub choice_at : ℕ → Option Event → Choice
-choice_at i none = record { operate = HO; event = 0; lots = 0 }
-choice_at i (some e) = record { operate = e.operate; event = i; lots = e.lots }
+choice_at i None = record { operate = HO; event = 0; lots = 0 }
+choice_at i (Some e) = record { operate = e.operate; event = i; lots = e.lots }
 
 abbrev pub choice_of : List Event → Option ℕ → Choice
-choice_of es none = record { operate = HO; event = 0; lots = 0 }
-choice_of es (some i) = choice_at i (get_elem? es i)
+choice_of es None = record { operate = HO; event = 0; lots = 0 }
+choice_of es (Some i) = choice_at i (slice_get es i)
 
 unfoldable pub choose : Sheet → List Line → Choice
 choose s ls = choice_of s.events (first_match s.events ls)
@@ -80,9 +72,9 @@ choose s ls = choice_of s.events (first_match s.events ls)
 -- ---- the tests
 
 -- "allowed if there is no last long open, or whole seconds between instants exceed interval"
-abbrev pub allowed : Sheet → Bar → Open → Bool
-allowed s b Open.Never = true
-allowed s b (Open.At t) = lt_z (pos s.interval) (seconds_between t.instant.0 b.time.instant.0)
+abbrev pub allowed : Sheet → Bar → Option Time → Bool
+allowed s b None = true
+allowed s b (Some t) = lt_z (pos s.interval) (seconds_between t.instant.0 b.time.instant.0)
 
 abbrev pub same_day : ℤ → ℤ → Bool
 same_day (pos m) (pos n) = eqb m n
@@ -91,12 +83,12 @@ same_day (negsuc m) (pos n) = false
 same_day (negsuc m) (negsuc n) = eqb m n
 
 -- "no last short open, or its day differs from today's"; a day opens so many minutes before midnight: "21:00 as part of the next day"
-abbrev pub different_day : ℕ → Bar → Open → Bool
-different_day evening b Open.Never = true
-different_day evening b (Open.At t) = not (same_day (day_at evening t) (day_at evening b.time))
+abbrev pub different_day : ℕ → Bar → Option Time → Bool
+different_day evening b None = true
+different_day evening b (Some t) = not (same_day (day_at evening t) (day_at evening b.time))
 
 -- "(t0, or no last short open, or its day differs from today's)"; "Only the same-day rule reads it"
-abbrev pub may_close : Sheet → Bar → Open → Bool
+abbrev pub may_close : Sheet → Bar → Option Time → Bool
 may_close s b last = s.t0 || different_day s.evening b last
 
 -- the stop as a double of basis points
@@ -133,14 +125,14 @@ abbrev pub open_now : Side → Bar → Going → Going
 open_now Side.Long b g =
     let h = g.head in
     record {
-      head = record { pos = h.pos; changed = h.changed; end = h.end; long = Open.At b.time; short = h.short; reference = h.reference };
+      head = record { pos = h.pos; changed = h.changed; end = h.end; long = Some b.time; short = h.short; reference = h.reference };
       lots = g.lots;
       wrote = g.wrote;
     }
 open_now Side.Short b g =
     let h = g.head in
     record {
-      head = record { pos = h.pos; changed = h.changed; end = h.end; long = h.long; short = Open.At b.time; reference = h.reference };
+      head = record { pos = h.pos; changed = h.changed; end = h.end; long = h.long; short = Some b.time; reference = h.reference };
       lots = g.lots;
       wrote = g.wrote;
     }
@@ -148,9 +140,9 @@ open_now Side.Short b g =
 -- ---- the steps
 
 -- "2. .. LO or SO makes this bar and event the reference."
-abbrev pub reference_for : Bar → Choice → Reference → Reference
+abbrev pub reference_for : Bar → Choice → Option LastEvent → Option LastEvent
 reference_for b c r =
-    cond (eqb c.operate LO || eqb c.operate SO) (Reference.At (record { bar = b; operate = c.operate; event = c.event })) r
+    cond (eqb c.operate LO || eqb c.operate SO) (Some (record { bar = b; operate = c.operate; event = c.event })) r
 
 -- "1. Changed is no." "2. End is this bar's time." The lots are those open before the bar.
 unfoldable pub arrive : Bar → Choice → ℕ → Head → Going
@@ -176,9 +168,9 @@ unfoldable pub opening : Sheet → Bar → Choice → Side → Going → Going
 opening s b c side g = cond (eqb c.operate (open_of side)) (open_or_close s b c side g) g
 
 -- "close on the first of operate LE (event name), .. (stop), .. (timeout). Flat, record LE."
-abbrev pub close_on : Sheet → Bar → Choice → Side → Reference → Going → Going
-close_on s b c side Reference.Never g = g
-close_on s b c side (Reference.At r) g =
+abbrev pub close_on : Sheet → Bar → Choice → Side → Option LastEvent → Going → Going
+close_on s b c side None g = g
+close_on s b c side (Some r) g =
     cond (eqb c.operate (close_of side)) (write b (close_of side) Flat (ByEvent c.event) g.lots g)
     (cond (stopped s side b r) (write b (close_of side) Flat Stop g.lots g)
     (cond (timed_out s b r) (write b (close_of side) Flat Timeout g.lots g) g))
@@ -230,13 +222,13 @@ step s b ls st =
 
 -- ---- what decided a bar: the record's event, stop or timeout; else the event chosen; else nothing
 
-abbrev pub chosen_event : Option ℕ → Decision
-chosen_event none = Nothing
-chosen_event (some i) = By (ByEvent i)
+abbrev pub chosen_event : Option ℕ → Option Description
+chosen_event None = None
+chosen_event (Some i) = Some (ByEvent i)
 
-unfoldable pub decided : Sheet → List Line → List Record → Decision
+unfoldable pub decided : Sheet → List Line → List Record → Option Description
 decided s ls [] = chosen_event (first_match s.events ls)
-decided s ls (r ∷ rs) = By r.description
+decided s ls (r ∷ rs) = Some r.description
 
 -- ---- a list of bars
 

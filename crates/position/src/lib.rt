@@ -5,18 +5,11 @@
 use bar::{Bar, LocalTime, Time};
 use double::{Side, Yield};
 
-#[derive(Clone, Copy)]
+#[derive(Clone, Copy, PartialEq, Eq)]
 pub enum Pos {
     Short,
     Flat,
     Long,
-}
-
-// The time of the last opening of a side, if there was one.
-#[derive(Clone, Copy)]
-pub enum Open {
-    Never,
-    At(Time),
 }
 
 // The bar and the event of an LO or SO.
@@ -27,13 +20,6 @@ pub struct LastEvent {
     pub event: u32,
 }
 
-// The last LO or SO, against which stops and timeouts are taken, if there was one.
-#[derive(Clone, Copy)]
-pub enum Reference {
-    Never,
-    At(LastEvent),
-}
-
 // The event that a bar's signals choose: its operate, its index, by which its name is had, and its lots.
 #[derive(Clone, Copy)]
 pub struct Choice {
@@ -42,15 +28,16 @@ pub struct Choice {
     pub lots: u16,
 }
 
-// What a bar changes beside the lists of records and holds.
+// What a bar changes beside the lists of records and holds: with the times of the two sides' last openings, if there were any, and the last LO or SO,
+// against which stops and timeouts are taken, if there was one.
 #[derive(Clone, Copy)]
 pub struct Head {
     pub pos: Pos,
     pub changed: bool,
     pub end: Time,
-    pub long: Open,
-    pub short: Open,
-    pub reference: Reference,
+    pub long: Option<Time>,
+    pub short: Option<Time>,
+    pub reference: Option<LastEvent>,
 }
 
 // A record's description: an event by its index, a stop, or a timeout.
@@ -108,17 +95,10 @@ pub struct HoldRow {
     pub n1b: Yield,
 }
 
-// What decided a bar.
-#[derive(Clone, Copy)]
-pub enum Decision {
-    Nothing,
-    By(Description),
-}
-
-// What a feed says of an accepted bar.
+// What a feed says of an accepted bar, and what decided it, if anything did.
 #[derive(Clone, Copy)]
 pub struct Report {
     pub pos: Pos,
     pub changed: bool,
-    pub decision: Decision,
+    pub decision: Option<Description>,
 }

@@ -1,16 +1,19 @@
 // The calls that position_book_c exports. Each takes numbers and byte slices of any kind, and answers a number of document 01 with its values.
 #![tactic(auto)]
 
-ghost use Rattle.std.specs.Prelude.{◌≡◌};
+ghost use Rattle.std.specs.Prelude.{◌≡◌, ℕ, List};
+ghost use Rattle.text.specs.Answer.{number};
 ghost use Rattle.operate.specs.Operate.{operate_alone};
 ghost use Rattle.table.specs.Compile.{compile_do};
 ghost use Rattle.book.specs.Calls.{fresh_do, feed_do, feed_line_do, save_do, restore_do};
+ghost use Rattle.book_store.specs.Stored.{stored_of};
 ghost use Rattle.row.specs.Calls.{pair_do, hold_do, event_name_do};
 ghost use Rattle.row_blocks.specs.Blocks.{hold_block_do, pair_block_do, counts_do};
 ghost use Rattle.position_book_answer_alone.specs.Calls.{signal_do, SignalIs, operate_answer, name_do, NameIs};
 ghost use Rattle.position_book_answer.specs.Rows.{hold_answer, counts_answer};
 ghost use Rattle.position_book.specs.Results.{CompileIs, StoreIs, FeedIs, PairIs, BlockIs, EventNameIs};
 
+use book::OpenError;
 use book_feed::feed_bar;
 use book_feed_line::feed_line;
 use book_store::{fresh, restore, save};
@@ -54,16 +57,27 @@ pub fn position_book_operate_name(code: u32, out: &mut [u8]) -> NameAnswer
 pub fn position_book_compile(text: &[u8], table: &mut [u8]) -> u32
     ensures { CompileIs (compile_do text.now table.old) table.old table.new result }
 {
-    let r = compile(text, table);
-    r.number()
+    match compile(text, table) {
+        Ok(()) => 0,
+        Err(e) => e.number(),
+    }
+}
+
+// The number of what fresh, save and restore answer.
+fn stored_number(r: Result<(), OpenError>) -> u32
+    ensures { (after : List ℕ) → result ≡ number (stored_of after r) }
+{
+    match r {
+        Ok(()) => 0,
+        Err(e) => e.number(),
+    }
 }
 
 // Makes the book one with no bars.
 pub fn position_book_fresh(book: &mut [u8]) -> u32
     ensures { StoreIs (fresh_do book.old) book.old book.new result }
 {
-    let r = fresh(book);
-    r.number()
+    stored_number(fresh(book))
 }
 
 // Feeds a bar and its signals into the book, by the table.
@@ -78,8 +92,7 @@ pub fn position_book_feed(
 ) -> FeedAnswer
     ensures { FeedIs (feed_do table.now book.old (record { id = id; instant = instant; offset = offset; price = price; signals = signals.now })) book.old book.new result }
 {
-    let r = feed_bar(table, book, id, instant, offset, price, signals);
-    feed_answer(r)
+    feed_answer(feed_bar(table, book, id, instant, offset, price, signals))
 }
 
 // Feeds a bar by a line of the exchange's comma file, `id,YYYY-MM-DD HH:MM:SS+HH:MM,price` without its LF, and its signals into the book.
@@ -91,24 +104,21 @@ pub fn position_book_feed_line(
 ) -> FeedAnswer
     ensures { FeedIs (feed_line_do table.now book.old line.now signals.now) book.old book.new result }
 {
-    let r = feed_line(table, book, line, signals);
-    feed_answer(r)
+    feed_answer(feed_line(table, book, line, signals))
 }
 
 // Copies the book to the image.
 pub fn position_book_save(table: &[u8], book: &[u8], image: &mut [u8]) -> u32
     ensures { StoreIs (save_do table.now book.now image.old) image.old image.new result }
 {
-    let r = save(table, book, image);
-    r.number()
+    stored_number(save(table, book, image))
 }
 
 // Copies the image back to the book.
 pub fn position_book_restore(table: &[u8], book: &mut [u8], image: &[u8]) -> u32
     ensures { StoreIs (restore_do table.now book.old image.now) book.old book.new result }
 {
-    let r = restore(table, book, image);
-    r.number()
+    stored_number(restore(table, book, image))
 }
 
 // A pair row of the book by its index; its symbol, mark and sequence go one after another to the start of the buffer.
@@ -120,24 +130,21 @@ pub fn position_book_pair_row(
 ) -> PairAnswer
     ensures { PairIs (pair_do table.now book.now index buffer.old) buffer.old buffer.new result }
 {
-    let r = pair_row(table, book, index, buffer);
-    pair_answer(r)
+    pair_answer(pair_row(table, book, index, buffer))
 }
 
 // A hold row of the book by its index.
 pub fn position_book_hold_row(table: &[u8], book: &[u8], index: i64) -> HoldAnswer
     ensures { result ≡ hold_answer (hold_do table.now book.now index) }
 {
-    let r = hold_row(table, book, index);
-    hold_answer(r)
+    hold_answer(hold_row(table, book, index))
 }
 
 // How many hold rows and pair rows the book has.
 pub fn position_book_counts(table: &[u8], book: &[u8]) -> CountsAnswer
     ensures { result ≡ counts_answer (counts_do table.now book.now) }
 {
-    let r = row_counts(table, book);
-    counts_answer(r)
+    counts_answer(row_counts(table, book))
 }
 
 // The pair rows of the book from number `first` on, one after another to the start of `rows`: as many as fit.
@@ -149,8 +156,7 @@ pub fn position_book_pair_rows(
 ) -> BlockAnswer
     ensures { BlockIs (pair_block_do table.now book.now first rows.old) rows.old rows.new result }
 {
-    let r = pair_rows(table, book, first, rows);
-    block_answer(r)
+    block_answer(pair_rows(table, book, first, rows))
 }
 
 // The hold rows of the book from number `first` on, one after another to the start of `rows`: as many as fit.
@@ -162,14 +168,12 @@ pub fn position_book_hold_rows(
 ) -> BlockAnswer
     ensures { BlockIs (hold_block_do table.now book.now first rows.old) rows.old rows.new result }
 {
-    let r = hold_rows(table, book, first, rows);
-    block_answer(r)
+    block_answer(hold_rows(table, book, first, rows))
 }
 
 // The name of an event of the table by its index, to the start of the buffer.
 pub fn position_book_event_name(table: &[u8], index: i64, buffer: &mut [u8]) -> NameAnswer
     ensures { EventNameIs (event_name_do table.now index buffer.old) buffer.old buffer.new result }
 {
-    let r = event_name(table, index, buffer);
-    name_answer(r)
+    name_answer(event_name(table, index, buffer))
 }

@@ -1,4 +1,3 @@
 -- Values of an answer by its parts, and worked examples.
-pub mod Refusals
 pub mod Values
 mod Examples

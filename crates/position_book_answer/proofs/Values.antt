@@ -1,7 +1,9 @@
 -- The values of an answer by its parts. Assumes nothing.
 use Prim.Native.Nat.{ℕ}
 use mathlib.Core.Path.{◌≡◌, refl}
+use mathlib.Core.Bool.{Bool, true, false}
 use mathlib.Core.List.{[]}
+use mir.Val.{bool_byte}
 use lib.IntN.{ℤ}
 use lib.Ieee.{Float}
 use Rattle.text.specs.Answer.{Got}
@@ -12,6 +14,10 @@ use Rattle.position.specs.declared.PairRow.{PairRow}
 use Rattle.book.specs.Layout.{flag, yield_flag}
 use Rattle.row_blocks.specs.Blocks.{side_sign}
 use Rattle.position_book_answer.specs.Rows.{decision_code, decision_event, feed_answer, yield_value, pair_answer, hold_answer}
+
+pub flag_is : (t : Bool) → bool_byte t ≡ flag t
+flag_is true = refl
+flag_is false = refl
 
 pub feed_values : (r : Report) {z : ℤ} {t d e : ℕ} → z ≡ pos_sign r.pos → t ≡ flag r.changed → d ≡ decision_code r.decision → e ≡ decision_event r.decision
     → record { number = 0; pos = z; changed = t; decision = d; event = e } ≡ feed_answer (Got (record { after = []; report = r }))

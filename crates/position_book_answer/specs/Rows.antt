@@ -1,15 +1,14 @@
 -- What a feed and the requests for rows, blocks and counts answer to the host: their numbers and values. "Refused rows carry zeros and
 -- absent yields." A refused feed, block or count has zeros too. Assumes nothing.
-use Rattle.std.specs.Prelude.{ℕ, List, pos, Float}
-use Rattle.text.specs.Answer.{Answer, Refused, Got}
-use Rattle.double.specs.Double.{whole}
+use Rattle.std.specs.Prelude.{ℕ, List, pos, Float, Option, None, Some}
 use Rattle.double.specs.declared.Yield.{Yield}
 use Rattle.double.specs.declared.Yield.TheVariants.{Absent, Bp}
+use Rattle.position.specs.declared.Description.{Description}
+use Rattle.text.specs.Answer.{Answer, Refused, Got}
+use Rattle.double.specs.Double.{whole}
 use Rattle.position.specs.State.{pos_sign}
 use Rattle.position.specs.Feed.{Accepted}
 use Rattle.position.specs.declared.HoldRow.{HoldRow}
-use Rattle.position.specs.declared.Decision.{Decision}
-use Rattle.position.specs.declared.Decision.TheVariants.{Nothing, By}
 use Rattle.position.specs.declared.PairRow.{PairRow}
 use Rattle.book.specs.Layout.{flag, yield_flag, description_code, description_event}
 use Rattle.row_blocks.specs.Blocks.{side_sign}
@@ -24,13 +23,13 @@ use Rattle.position_book_answer.specs.declared.CountsAnswer.{CountsAnswer}
 -- ---- a feed
 
 -- "1 event, 2 stop, 3 timeout", as a record's description; 0 where nothing decided the bar
-abbrev pub decision_code : Decision → ℕ
-decision_code Nothing = 0
-decision_code (By d) = description_code d
+abbrev pub decision_code : Option Description → ℕ
+decision_code None = 0
+decision_code (Some d) = description_code d
 
-abbrev pub decision_event : Decision → ℕ
-decision_event Nothing = 0
-decision_event (By d) = description_event d
+abbrev pub decision_event : Option Description → ℕ
+decision_event None = 0
+decision_event (Some d) = description_event d
 
 abbrev pub feed_answer : Answer (Accepted (List ℕ)) → FeedAnswer
 feed_answer (Refused n) = record { number = n; pos = pos 0; changed = 0; decision = 0; event = 0 }

@@ -3,13 +3,16 @@
 
 ghost use Rattle.std.specs.Prelude.{◌≡◌, ◌≤◌, length};
 ghost use Rattle.text.specs.Answer.{Refused, Got};
+ghost use Rattle.utf8_text.specs.Read.{alone_refusal};
 ghost use Rattle.operate.specs.Operate.{operate_alone};
-ghost use Rattle.signal.specs.Read.{SignalOk, signal_in};
+ghost use Rattle.operate.specs.Read.{operate_refusal};
+ghost use Rattle.signal.specs.Read.{SignalOk, signal_in, signal_alone_refusal};
 ghost use Rattle.position_book_answer_alone.specs.Calls.{signal_do, signal_answer, SignalIs, operate_answer, name_do, NameIs};
 
-use operate::OperateAlone;
-use signal::{SignalAlone, SignalAt};
+use operate::OperateError;
+use signal::{SignalAloneError, SignalAt, SignalError};
 use text::put_part;
+use utf8_text::AloneError;
 
 // The length of a name.
 #[repr(C)]
@@ -21,7 +24,7 @@ pub struct NameAnswer {
 
 // What a signal alone says: its score, and the lengths of its key and its three values.
 #[repr(C)]
-#[derive(Clone, Copy)]
+#[derive(Clone, Copy, Default)]
 pub struct SignalAnswer {
     pub number: u32,
     pub score: u64,
@@ -39,17 +42,45 @@ pub struct OperateAnswer {
     pub code: u32,
 }
 
+// The number of why a text that stands alone is refused.
+fn alone_number(e: AloneError) -> u32
+    ensures { result ≡ alone_refusal e }
+{
+    match e {
+        AloneError::TooLong => 7,
+        AloneError::NotUtf8 => 1,
+        AloneError::Marked => 2,
+    }
+}
+
+// The number of why a text alone is no signal.
+fn signal_number(e: SignalAloneError) -> u32
+    ensures { result ≡ signal_alone_refusal e }
+{
+    match e {
+        SignalAloneError::Text(e) => alone_number(e),
+        SignalAloneError::Signal(SignalError::NotSeven) => 5,
+        SignalAloneError::Signal(SignalError::BadScore) => 6,
+    }
+}
+
+// The number of why a text alone is no operate.
+fn operate_number(e: OperateError) -> u32
+    ensures { result ≡ operate_refusal e }
+{
+    match e {
+        OperateError::Text(e) => alone_number(e),
+        OperateError::Unnamed => 4,
+    }
+}
+
 // A refusal with a number.
 fn refused(number: u32) -> SignalAnswer
     ensures { result ≡ signal_answer (Refused number) }
 {
     SignalAnswer {
-        number: number,
-        score: 0,
-        key: 0,
-        v1: 0,
-        v2: 0,
-        v3: 0,
+        number,
+        ..SignalAnswer::default()
     }
 }
 
@@ -59,18 +90,14 @@ fn put_signal(text: &[u8], out: &mut [u8], a: SignalAt) -> SignalAnswer
     requires text_in_bounds { length text.now ≤ length out.old }
     ensures { SignalIs (Got (signal_in text.now a)) out.old out.new result }
 {
-    let k3 = a.k3;
-    let v1 = a.v1;
-    let v2 = a.v2;
-    let v3 = a.v3;
     let key = signal::put_key(out, 0, text, a);
-    let p = put_part(out, key, text, k3 + 1, v1);
-    let q = put_part(out, p, text, v1 + 1, v2);
-    let r = put_part(out, q, text, v2 + 1, v3);
+    let p = put_part(out, key, text, a.k3 + 1, a.v1);
+    let q = put_part(out, p, text, a.v1 + 1, a.v2);
+    let r = put_part(out, q, text, a.v2 + 1, a.v3);
     SignalAnswer {
         number: 0,
         score: a.score,
-        key: key,
+        key,
         v1: p - key,
         v2: q - p,
         v3: r - q,
@@ -82,12 +109,8 @@ pub fn signal_answer(text: &[u8], out: &mut [u8]) -> SignalAnswer
     ensures { SignalIs (signal_do text.now out.old) out.old out.new result }
 {
     match signal::signal_alone(text) {
-        SignalAlone::TooLong => refused(7),
-        SignalAlone::NotUtf8 => refused(1),
-        SignalAlone::Marked => refused(2),
-        SignalAlone::WrongParts => refused(5),
-        SignalAlone::WrongScore => refused(6),
-        SignalAlone::Alone(a) => {
+        Err(e) => refused(signal_number(e)),
+        Ok(a) => {
             if out.len() < text.len() {
                 return refused(8);
             }
@@ -101,14 +124,14 @@ pub fn operate_answer(text: &[u8]) -> OperateAnswer
     ensures { result ≡ operate_answer (operate_alone text.now) }
 {
     match operate::operate_alone(text) {
-        OperateAlone::Named(o) => OperateAnswer {
+        Ok(o) => OperateAnswer {
             number: 0,
             code: o.code(),
         },
-        OperateAlone::TooLong => OperateAnswer { number: 7, code: 0 },
-        OperateAlone::NotUtf8 => OperateAnswer { number: 1, code: 0 },
-        OperateAlone::Marked => OperateAnswer { number: 2, code: 0 },
-        OperateAlone::Unnamed => OperateAnswer { number: 4, code: 0 },
+        Err(e) => OperateAnswer {
+            number: operate_number(e),
+            code: 0,
+        },
     }
 }
 

@@ -1,12 +1,13 @@
 -- Which steps act: for an LO or SO its opening alone, for any other operate the closings alone. Assumes nothing.
+use Rattle.std.specs.Prelude.{Option, Some}
 use Prim.Native.Nat.{ℕ, ◌-◌}
 use native.Mathlib.Omega.{arith}
 use mathlib.Core.Bool.{true, false, cond, ◌&&◌}
 use mathlib.Core.Path.{◌≡◌, refl, ap, ◌∙◌}
 use lib.Dec.{eqb}
 use borrow.Author.Tests.{eqb-true, le-ltb}
+use Rattle.position.specs.declared.LastEvent.{LastEvent}
 use Rattle.double.specs.declared.Side.{Side}
-use Rattle.double.specs.declared.Side.TheVariants as Side
 use Rattle.double.proofs.Branches.{both}
 use Rattle.double.proofs.OwnPrice.{own_price}
 use Rattle.stop.specs.Stop.{stop_double}
@@ -17,14 +18,12 @@ use Rattle.sheet.specs.Sheet.{Sheet}
 use Rattle.position.specs.Step.{Going, open_of, close_of, on, last_open, may_close, stopped, timed_out, write, open_now, arrive, open_or_close, opening, close_on, closing, going}
 use Rattle.position.specs.declared.Pos.TheVariants.{Flat}
 use Rattle.position.specs.declared.Choice.{Choice}
-use Rattle.position.specs.declared.Reference.{Reference}
-use Rattle.position.specs.declared.Reference.TheVariants as Reference
 use Rattle.position.specs.declared.Head.{Head}
 use Rattle.position_laws.proofs.Keeps.{opening_keeps}
 
 -- the reference that an LO or SO makes
-own : Bar → Choice → Reference
-own b c = Reference.At (record { bar = b; operate = c.operate; event = c.event })
+own : Bar → Choice → Option LastEvent
+own b c = Some (record { bar = b; operate = c.operate; event = c.event })
 
 now_reference : (side : Side) (b : Bar) (g : Going) → (open_now side b g).head.reference ≡ g.head.reference
 now_reference Side.Long b g = refl
@@ -74,7 +73,7 @@ module _ (s : Sheet) (b : Bar) (c : Choice) where
   unfolding closing
   closing_own side g e r =
       let t = on side g.head.pos && may_close s b (last_open side g.head) in
-      ap (λ (x : Reference). cond t (close_on s b c side x g) g) r
+      ap (λ (x : Option LastEvent). cond t (close_on s b c side x g) g) r
       ∙ ap (λ (x : Going). cond t x g) (close_on_own side g e)
       ∙ both (λ (x : Going). x ≡ g) t g g refl refl
 

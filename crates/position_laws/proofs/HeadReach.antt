@@ -1,4 +1,5 @@
 -- The head after an accepted bar is in range, its opens and its reference not after the bar. Assumes nothing.
+use Rattle.std.specs.Prelude.{Option, None, Some}
 use Prim.Native.Nat.{ℕ}
 use native.Mathlib.Nat.{le_of_lt}
 use mathlib.Core.Bool.{Bool, true, false, cond, ◌||◌, false≢true}
@@ -10,8 +11,8 @@ use lib.Ieee.Bits.{is_true}
 use lib.Signed.{le_z, lt_z, le_z_yes, lt_z_yes, lt_z_no, ≤ℤ_refl, <ℤ-≤ℤ_trans, clash_ℤ}
 use denote.Floats.{passes}
 use borrow.Author.Tests.{ltb-true, le-leb}
+use Rattle.position.specs.declared.LastEvent.{LastEvent}
 use Rattle.double.specs.declared.Side.{Side}
-use Rattle.double.specs.declared.Side.TheVariants as Side
 use Rattle.operate.specs.Operate.{LO, LE, SO, SE}
 use Rattle.bar.specs.declared.Time.{Time}
 use Rattle.bar.specs.declared.Bar.{Bar}
@@ -20,10 +21,6 @@ use Rattle.event.specs.Signals.{Line}
 use Rattle.position.specs.State.{fresh_head}
 use Rattle.position.specs.Step.{Going, choose, write, open_now, reference_for, arrive, step_head}
 use Rattle.position.specs.declared.Pos.{Pos}
-use Rattle.position.specs.declared.Open.{Open}
-use Rattle.position.specs.declared.Open.TheVariants as Open
-use Rattle.position.specs.declared.Reference.{Reference}
-use Rattle.position.specs.declared.Reference.TheVariants as Reference
 use Rattle.position.specs.declared.Head.{Head}
 use Rattle.position.specs.declared.Description.{Description}
 use Rattle.position_laws.proofs.Keeps.{going_keeps}
@@ -63,13 +60,13 @@ pub past-fresh : (s : Sheet) (t : Time) → Past s t fresh_head
 unfolding fresh_head
 past-fresh s t = record { long = tt; short = tt; reference = tt }
 
-later_open : (t u : Time) (o : Open) → Before t u → OpenOk t o → OpenOk u o
-later_open t u Open.Never h k = k
-later_open t u (Open.At r) h k = (k.0, before_by r u (by_before r t u k.1 h))
+later_open : (t u : Time) (o : Option Time) → Before t u → OpenOk t o → OpenOk u o
+later_open t u None h k = k
+later_open t u (Some r) h k = (k.0, before_by r u (by_before r t u k.1 h))
 
-later_reference : (s : Sheet) (t u : Time) (r : Reference) → Before t u → ReferenceOk s t r → ReferenceOk s u r
-later_reference s t u Reference.Never h k = k
-later_reference s t u (Reference.At r) h k =
+later_reference : (s : Sheet) (t u : Time) (r : Option LastEvent) → Before t u → ReferenceOk s t r → ReferenceOk s u r
+later_reference s t u None h k = k
+later_reference s t u (Some r) h k =
     record { bar = k.bar; operate = k.operate; event = k.event; past = before_by r.bar.time u (by_before r.bar.time t u k.past h) }
 
 pub past_later : (s : Sheet) (t : Time) (h : Head) → HeadOk s h → Before h.end t → Past s t h
@@ -98,7 +95,7 @@ module _ (s : Sheet) (b : Bar) (ok : BarOk b) where
       (f.0, record { end = f.1.end; long = f.1.long; short = (ok.time, rw f.0 (by_self b.time)); reference = f.1.reference })
 
   -- an LO or SO is one of the sheet's events
-  refers : (ls : List Line) (r : Reference) → ReferenceOk s b.time r → ReferenceOk s b.time (reference_for b (choose s ls) r)
+  refers : (ls : List Line) (r : Option LastEvent) → ReferenceOk s b.time r → ReferenceOk s b.time (reference_for b (choose s ls) r)
   refers ls r k = go (eqb operate LO || eqb operate SO) refl
     where
       operate : ℕ
@@ -111,7 +108,7 @@ module _ (s : Sheet) (b : Bar) (ok : BarOk b) where
       opens false false false d e = absurd (false≢true e)
 
       go : (t : Bool) → (eqb operate LO || eqb operate SO) ≡ t
-          → ReferenceOk s b.time (cond t (Reference.At (record { bar = b; operate = operate; event = (choose s ls).event })) r)
+          → ReferenceOk s b.time (cond t (Some (record { bar = b; operate = operate; event = (choose s ls).event })) r)
       go true e =
           record {
             bar = ok;

@@ -1,17 +1,16 @@
 -- What an opening and a closing keep, a bar keeps. Assumes nothing.
+use Rattle.std.specs.Prelude.{Option, None, Some}
 use Prim.Native.Nat.{ℕ}
 use mathlib.Core.Bool.{Bool, true, false, not, cond, ◌&&◌, and-eq-true_iff}
 use mathlib.Core.Path.{◌≡◌, refl}
 use lib.Dec.{eqb}
+use Rattle.position.specs.declared.LastEvent.{LastEvent}
 use Rattle.double.specs.declared.Side.{Side}
-use Rattle.double.specs.declared.Side.TheVariants as Side
 use Rattle.double.proofs.Branches.{both}
 use Rattle.bar.specs.declared.Bar.{Bar}
 use Rattle.sheet.specs.Sheet.{Sheet}
 use Rattle.position.specs.declared.Choice.{Choice}
 use Rattle.position.specs.declared.Pos.TheVariants.{Flat}
-use Rattle.position.specs.declared.Reference.{Reference}
-use Rattle.position.specs.declared.Reference.TheVariants as Reference
 use Rattle.position.specs.declared.Head.{Head}
 use Rattle.position.specs.declared.Description.{Description}
 use Rattle.position.specs.declared.Description.TheVariants.{Event as ByEvent, Stop, Timeout}
@@ -36,9 +35,9 @@ module _ (P : Going → Type 0) (s : Sheet) (b : Bar) (c : Choice)
       (λ f. closed (other side) (ByEvent c.event) g ((and-eq-true_iff (on (other side) g.head.pos) _).0 f).0 p) p))
       p
 
-  close_on_keeps : (side : Side) (r : Reference) (g : Going) → on side g.head.pos ≡ true → P g → P (close_on s b c side r g)
-  close_on_keeps side Reference.Never g e p = p
-  close_on_keeps side (Reference.At r) g e p =
+  close_on_keeps : (side : Side) (r : Option LastEvent) (g : Going) → on side g.head.pos ≡ true → P g → P (close_on s b c side r g)
+  close_on_keeps side None g e p = p
+  close_on_keeps side (Some r) g e p =
       both P (eqb c.operate (close_of side)) _ _ (closed side (ByEvent c.event) g e p)
       (both P (stopped s side b r) _ _ (closed side Stop g e p)
       (both P (timed_out s b r) _ g (closed side Timeout g e p) p))

@@ -2,17 +2,15 @@
 use Prim.Native.Nat.{ℕ, zero, suc}
 use mathlib.Core.Bool.{Bool, true, false≢true}
 use mathlib.Core.List.{List, [], ◌∷◌}
-use mathlib.Core.Option.{Option, none, some}
+use Rattle.std.specs.Prelude.{Option, None, Some, slice_get}
 use mathlib.Core.Path.{◌≡◌, refl, ap, ◌∙◌}
 use mathlib.Mathlib.Data.List.Defs.{Forall}
 use mathlib.Mathlib.Data.List.Basic.{Forall-append}
 use lib.Dec.{eqb}
-use lib.ListN.{get_elem?}
 use borrow.Author.Tests.{eqb-true}
 use Rattle.text.specs.Conditions.{every}
 use Rattle.text.proofs.Every.{every_cons}
 use Rattle.double.specs.declared.Side.{Side}
-use Rattle.double.specs.declared.Side.TheVariants as Side
 use Rattle.bar.specs.declared.Bar.{Bar}
 use Rattle.sheet.specs.Sheet.{Event, Sheet, lots_ok}
 use Rattle.event.specs.Signals.{Line}
@@ -42,15 +40,15 @@ chosen-lots : (s : Sheet) (ls : List Line) → EventLots s → trades (choose s 
 unfolding choose
 chosen-lots s ls h t = chosen (first_match s.events ls) t
   where
-    within : (es : List Event) (i k : ℕ) → every in_range es ≡ true → trades (choice_at k (get_elem? es i)).operate ≡ true
-        → lots_ok (choice_at k (get_elem? es i)).lots ≡ true
+    within : (es : List Event) (i k : ℕ) → every in_range es ≡ true → trades (choice_at k (slice_get es i)).operate ≡ true
+        → lots_ok (choice_at k (slice_get es i)).lots ≡ true
     within [] i k h t = absurd (false≢true t)
     within (e ∷ es) zero k h t = (every_cons in_range e es h).0
     within (e ∷ es) (suc i) k h t = within es i k (every_cons in_range e es h).1 t
 
     chosen : (o : Option ℕ) → trades (choice_of s.events o).operate ≡ true → lots_ok (choice_of s.events o).lots ≡ true
-    chosen none t = absurd (false≢true t)
-    chosen (some i) t = within s.events i i h t
+    chosen None t = absurd (false≢true t)
+    chosen (Some i) t = within s.events i i h t
 
 -- ---- a bar on its way
 

@@ -5,13 +5,13 @@ use native.Mathlib.Omega.{arith}
 use mathlib.Core.Bool.{Bool, true, false, not, cond, ◌&&◌, false≢true}
 use mathlib.Core.List.{List, [], ◌∷◌}
 use mathlib.Core.Logic.{◌⊎◌, inl, inr}
-use mathlib.Core.Option.{Option, none, some}
+use Rattle.std.specs.Prelude.{Option, None, Some, slice_get}
 use mathlib.Core.Path.{◌≡◌, refl, sym, ap, ◌∙◌, subst}
 use lib.Dec.{eqb}
-use lib.ListN.{length, get_elem?}
+use lib.ListN.{length}
 use borrow.Author.Tests.{eqb-true}
+use Rattle.position.specs.declared.LastEvent.{LastEvent}
 use Rattle.double.specs.declared.Side.{Side}
-use Rattle.double.specs.declared.Side.TheVariants as Side
 use Rattle.double.proofs.Branches.{both}
 use Rattle.operate.specs.Operate.{LO, SO}
 use Rattle.bar.specs.declared.Bar.{Bar}
@@ -23,8 +23,6 @@ use Rattle.position.specs.Step.{Going, choice_at, choice_of, choose, other, open
 use Rattle.position.specs.declared.Choice.{Choice}
 use Rattle.position.specs.declared.Pos.{Pos}
 use Rattle.position.specs.declared.Pos.TheVariants.{Flat}
-use Rattle.position.specs.declared.Reference.{Reference}
-use Rattle.position.specs.declared.Reference.TheVariants as Reference
 use Rattle.position.specs.declared.Head.{Head}
 use Rattle.position.specs.declared.Description.{Description}
 use Rattle.position.specs.declared.Description.TheVariants.{Event as ByEvent, Stop, Timeout}
@@ -59,18 +57,18 @@ pub event_known : (s : Sheet) (ls : List Line) → trades (choose s ls).operate 
 unfolding choose
 event_known s ls t = chosen (first_match s.events ls) t
   where
-    within : (es : List Event) (i k : ℕ) → trades (choice_at k (get_elem? es i)).operate ≡ true → i < length es
+    within : (es : List Event) (i k : ℕ) → trades (choice_at k (slice_get es i)).operate ≡ true → i < length es
     within [] i k t = absurd (false≢true t)
     within (e ∷ es) zero k t = omega arith
     within (e ∷ es) (suc i) k t = omega (arith, within es i k t)
 
     index : (i : ℕ) (e : Option Event) → trades (choice_at i e).operate ≡ true → i < length s.events → (choice_at i e).event < length s.events
-    index i none t h = absurd (false≢true t)
-    index i (some e) t h = h
+    index i None t h = absurd (false≢true t)
+    index i (Some e) t h = h
 
     chosen : (o : Option ℕ) → trades (choice_of s.events o).operate ≡ true → (choice_of s.events o).event < length s.events
-    chosen none t = absurd (false≢true t)
-    chosen (some i) t = index i (get_elem? s.events i) t (within s.events i i t)
+    chosen None t = absurd (false≢true t)
+    chosen (Some i) t = index i (slice_get s.events i) t (within s.events i i t)
 
 -- ---- the two sides
 
@@ -134,9 +132,9 @@ module _ (s : Sheet) (b : Bar) (c : Choice) (known : trades c.operate ≡ true �
 
   -- ---- the first closing that writes leaves Flat, so no other does
 
-  close_on_calm : (side : Side) (r : Reference) (g : Going) → Quiet g → Calm s b (close_on s b c side r g)
-  close_on_calm side Reference.Never g q = inl q
-  close_on_calm side (Reference.At r) g q = go (eqb c.operate (close_of side)) refl
+  close_on_calm : (side : Side) (r : Option LastEvent) (g : Going) → Quiet g → Calm s b (close_on s b c side r g)
+  close_on_calm side None g q = inl q
+  close_on_calm side (Some r) g q = go (eqb c.operate (close_of side)) refl
     where
       go : (t : Bool) → eqb c.operate (close_of side) ≡ t
           → Calm s b (cond t (write b (close_of side) Flat (ByEvent c.event) g.lots g)

@@ -17,11 +17,11 @@ use lib.ListN.{length}
 use lib.Signed.{lt_z}
 use denote.Floats.{passes}
 use borrow.Author.Tests.{leb-true, ltb-true}
+use Rattle.double.specs.declared.Yield.TheVariants.{Absent, Bp}
 use Rattle.text.specs.Answer.{Answer, Got, ◌>>=◌, must}
 use Rattle.text.proofs.Answers.{got_from, must_got, got_same}
 use Rattle.double.specs.Double.{whole, ◌×ᶠ◌, gain, hold_yield, yield_ok}
 use Rattle.double.specs.declared.Side.TheVariants.{Long}
-use Rattle.double.specs.declared.Yield.TheVariants.{Absent, Bp}
 use Rattle.double.proofs.Numbers.{hold_number}
 use Rattle.bar.specs.Bar.{last_id, id_ok, instant_ok, offset_ok, bar_of}
 use Rattle.bar.specs.declared.Time.{Time}

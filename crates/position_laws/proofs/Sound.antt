@@ -1,4 +1,5 @@
 -- What every state has that bars can reach: its values are in range, its lists rise, and its last hold is the head's. Assumes nothing.
+use Rattle.std.specs.Prelude.{Option, None, Some}
 use Prim.Native.Nat.{ℕ, ◌≤◌, ◌<◌}
 use mathlib.Core.Bool.{true, false, ◌||◌}
 use mathlib.Core.List.{List, [], ◌∷◌, ◌++◌}
@@ -20,11 +21,7 @@ use Rattle.sheet.specs.Sheet.{Sheet, lots_ok}
 use Rattle.position.specs.State.{State, fresh_state, trades}
 use Rattle.position.specs.declared.Pos.{Pos}
 use Rattle.position.specs.declared.Pos.TheVariants.{Short, Flat, Long}
-use Rattle.position.specs.declared.Open.{Open}
-use Rattle.position.specs.declared.Open.TheVariants as Open
 use Rattle.position.specs.declared.LastEvent.{LastEvent}
-use Rattle.position.specs.declared.Reference.{Reference}
-use Rattle.position.specs.declared.Reference.TheVariants as Reference
 use Rattle.position.specs.declared.Head.{Head}
 use Rattle.position.specs.declared.Record.{Record}
 use Rattle.position.specs.declared.Hold.{Hold}
@@ -80,9 +77,9 @@ pub record RecordOk (s : Sheet) (r : Record) : Type 0 where
 
 -- ---- the head, whose end is `end`
 
-abbrev pub OpenOk : Time → Open → Type 0
-OpenOk end Open.Never = Unit {0}
-OpenOk end (Open.At t) = (time_ok t ≡ true) × By end t
+abbrev pub OpenOk : Time → Option Time → Type 0
+OpenOk end None = Unit {0}
+OpenOk end (Some t) = (time_ok t ≡ true) × By end t
 
 pub record LastEventOk (s : Sheet) (end : Time) (r : LastEvent) : Type 0 where
   pub bar : BarOk r.bar
@@ -90,9 +87,9 @@ pub record LastEventOk (s : Sheet) (end : Time) (r : LastEvent) : Type 0 where
   pub event : r.event < length s.events
   pub past : By end r.bar.time
 
-abbrev pub ReferenceOk : Sheet → Time → Reference → Type 0
-ReferenceOk s end Reference.Never = Unit {0}
-ReferenceOk s end (Reference.At r) = LastEventOk s end r
+abbrev pub ReferenceOk : Sheet → Time → Option LastEvent → Type 0
+ReferenceOk s end None = Unit {0}
+ReferenceOk s end (Some r) = LastEventOk s end r
 
 pub record HeadOk (s : Sheet) (h : Head) : Type 0 where
   pub end : time_ok h.end ≡ true

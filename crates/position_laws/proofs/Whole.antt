@@ -1,9 +1,11 @@
 -- "Whole stops give the books they gave.": the machine with a stop of 100 * w hundredths is the one with w basis points, and a closing by it is
 -- shown as it was. Assumes nothing.
+use Rattle.std.specs.Prelude.{Option, None, Some}
 use Prim.Native.Nat.{ℕ, ◌*◌, ◌≤◌}
 use mathlib.Core.List.{List, [], ◌∷◌, ◌++◌}
 use mathlib.Core.Path.{◌≡◌, refl, ap, ◌∙◌}
 use lib.Ieee.{Float}
+use Rattle.position.specs.declared.LastEvent.{LastEvent}
 use Rattle.text.specs.Literal.{bytes}
 use Rattle.text.specs.Number.{decimal_of}
 use Rattle.double.specs.Double.{whole, stop_hit}
@@ -17,8 +19,6 @@ use Rattle.position.specs.State.{State, fresh_state}
 use Rattle.position.specs.Step.{Going, Fed, stopped, close_on, closing, going, step_head, step, plain_from, plain}
 use Rattle.position.specs.Rows.{close_name, description_text}
 use Rattle.position.specs.declared.Choice.{Choice}
-use Rattle.position.specs.declared.Reference.{Reference}
-use Rattle.position.specs.declared.Reference.TheVariants as Reference
 use Rattle.position.specs.declared.Head.{Head}
 use Rattle.position.specs.declared.Description.TheVariants.{Stop}
 use Rattle.position_laws.specs.Before.{Test, whole_test, close_on_by, closing_by, going_by, plain_from_by, plain_before}
@@ -26,9 +26,9 @@ use Rattle.position_laws.specs.Before.{Test, whole_test, close_on_by, closing_by
 -- ---- the machine is the one with its own test
 
 module _ (s : Sheet) (b : Bar) (c : Choice) where
-  close_on_own : (side : Side) (r : Reference) (g : Going) → close_on s b c side r g ≡ close_on_by (stopped s) s b c side r g
-  close_on_own side Reference.Never g = refl
-  close_on_own side (Reference.At r) g = refl
+  close_on_own : (side : Side) (r : Option LastEvent) (g : Going) → close_on s b c side r g ≡ close_on_by (stopped s) s b c side r g
+  close_on_own side None g = refl
+  close_on_own side (Some r) g = refl
 
   closing_own : (side : Side) (g : Going) → closing s b c side g ≡ closing_by (stopped s) s b c side g
   unfolding closing

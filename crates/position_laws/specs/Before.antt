@@ -1,8 +1,7 @@
 -- The plain machine with the stop test that it had when stops were whole basis points. It serves to state what did not change. Assumes nothing.
-use Rattle.std.specs.Prelude.{ℕ, Bool, cond, ◌&&◌, List, [], ◌∷◌, ◌++◌, eqb}
+use Rattle.std.specs.Prelude.{ℕ, Bool, cond, ◌&&◌, List, [], ◌∷◌, ◌++◌, eqb, Option, None, Some}
 use Rattle.double.specs.Double.{whole, stop_hit}
 use Rattle.double.specs.declared.Side.{Side}
-use Rattle.double.specs.declared.Side.TheVariants as Side
 use Rattle.bar.specs.declared.Bar.{Bar}
 use Rattle.sheet.specs.Sheet.{Sheet}
 use Rattle.event.specs.Signals.{Line}
@@ -11,8 +10,6 @@ use Rattle.position.specs.Step.{Going, Fed, close_of, on, last_open, choose, may
 use Rattle.position.specs.declared.Pos.TheVariants.{Flat}
 use Rattle.position.specs.declared.Choice.{Choice}
 use Rattle.position.specs.declared.LastEvent.{LastEvent}
-use Rattle.position.specs.declared.Reference.{Reference}
-use Rattle.position.specs.declared.Reference.TheVariants as Reference
 use Rattle.position.specs.declared.Head.{Head}
 use Rattle.position.specs.declared.Description.TheVariants.{Event as ByEvent, Stop, Timeout}
 
@@ -26,9 +23,9 @@ whole_test w side b r = stop_hit side (whole w) r.bar.price b.price
 
 -- ---- steps 5 and 6 by a test; all else as it stands in position/specs/Step
 
-abbrev pub close_on_by : Test → Sheet → Bar → Choice → Side → Reference → Going → Going
-close_on_by hit s b c side Reference.Never g = g
-close_on_by hit s b c side (Reference.At r) g =
+abbrev pub close_on_by : Test → Sheet → Bar → Choice → Side → Option LastEvent → Going → Going
+close_on_by hit s b c side None g = g
+close_on_by hit s b c side (Some r) g =
     cond (eqb c.operate (close_of side)) (write b (close_of side) Flat (ByEvent c.event) g.lots g)
     (cond (hit side b r) (write b (close_of side) Flat Stop g.lots g)
     (cond (timed_out s b r) (write b (close_of side) Flat Timeout g.lots g) g))

@@ -1,9 +1,12 @@
 -- What steps 1 to 6 of a bar read and leave: of a sheet the settings alone, a record of this bar, its own reference. Assumes nothing.
+use Rattle.std.specs.Prelude.{Option, None, Some}
 use Prim.Native.Nat.{ℕ}
 use mathlib.Core.List.{List, [], ◌∷◌}
 use mathlib.Core.Path.{◌≡◌, refl, ap, ◌∙◌, subst}
 use mathlib.Mathlib.Data.List.Defs.{Forall}
 use mathlib.Mathlib.Data.List.Basic.{Forall-append}
+use Rattle.position.specs.declared.LastEvent.{LastEvent}
+use Rattle.bar.specs.declared.Time.{Time}
 use Rattle.double.specs.declared.Side.{Side}
 use Rattle.double.specs.declared.Side.TheVariants as Side
 use Rattle.bar.specs.declared.Bar.{Bar}
@@ -12,10 +15,6 @@ use Rattle.table.specs.Layout.{settings_in, parts_in}
 use Rattle.table.specs.Table.{sheet_of}
 use Rattle.position.specs.Step.{Going, last_open, allowed, stopped, timed_out, write, open_now, reference_for, arrive, open_or_close, opening, close_on, closing, going}
 use Rattle.position.specs.declared.Choice.{Choice}
-use Rattle.position.specs.declared.Open.{Open}
-use Rattle.position.specs.declared.Open.TheVariants as Open
-use Rattle.position.specs.declared.Reference.{Reference}
-use Rattle.position.specs.declared.Reference.TheVariants as Reference
 use Rattle.position.specs.declared.Head.{Head}
 use Rattle.position.specs.declared.Record.{Record}
 use Rattle.position_laws.proofs.Keeps.{going_keeps}
@@ -24,19 +23,19 @@ use Rattle.position_machine.specs.Update.{of_settings}
 -- ---- steps 2 to 6 read the settings alone
 
 module _ (t : List ℕ) (b : Bar) (c : Choice) where
-  allowed_same : (o : Open) → allowed (sheet_of (parts_in t)) b o ≡ allowed (of_settings (settings_in t)) b o
+  allowed_same : (o : Option Time) → allowed (sheet_of (parts_in t)) b o ≡ allowed (of_settings (settings_in t)) b o
   unfolding sheet_of parts_in
-  allowed_same Open.Never = refl
-  allowed_same (Open.At r) = refl
+  allowed_same None = refl
+  allowed_same (Some r) = refl
 
   opening-same : (side : Side) (g : Going) → opening (sheet_of (parts_in t)) b c side g ≡ opening (of_settings (settings_in t)) b c side g
   unfolding opening open_or_close sheet_of parts_in
   opening-same side g = rw (allowed_same (last_open side g.head)) refl
 
-  close_on-same : (side : Side) (r : Reference) (g : Going) → close_on (sheet_of (parts_in t)) b c side r g ≡ close_on (of_settings (settings_in t)) b c side r g
+  close_on-same : (side : Side) (r : Option LastEvent) (g : Going) → close_on (sheet_of (parts_in t)) b c side r g ≡ close_on (of_settings (settings_in t)) b c side r g
   unfolding stopped timed_out sheet_of parts_in
-  close_on-same side Reference.Never g = refl
-  close_on-same side (Reference.At r) g = refl
+  close_on-same side None g = refl
+  close_on-same side (Some r) g = refl
 
   closing_same : (side : Side) (g : Going) → closing (sheet_of (parts_in t)) b c side g ≡ closing (of_settings (settings_in t)) b c side g
   unfolding closing sheet_of parts_in

@@ -1,4 +1,3 @@
 -- The laws of the machine's step.
 pub mod Going
-pub mod Tests
 pub mod Rules

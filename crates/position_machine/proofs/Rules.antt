@@ -1,11 +1,13 @@
 -- Steps 3 to 6 by their branches, and the whole step: a closing that wrote leaves Flat, so no other writes. Assumes nothing.
+use Rattle.std.specs.Prelude.{Option, None, Some}
 use Prim.Native.Nat.{ℕ}
 use mathlib.Core.Bool.{Bool, true, false, not, cond, ◌&&◌, false≢true}
 use mathlib.Core.Logic.{◌⊎◌, inl, inr}
 use mathlib.Core.Path.{◌≡◌, refl, sym, ap, ap₂, ◌∙◌, subst}
 use lib.Dec.{eqb}
+use Rattle.position.specs.declared.Description.{Description}
+use Rattle.position.specs.declared.LastEvent.{LastEvent}
 use Rattle.double.specs.declared.Side.{Side}
-use Rattle.double.specs.declared.Side.TheVariants as Side
 use Rattle.double.proofs.Branches.{both}
 use Rattle.operate.specs.Operate.{LO, SO}
 use Rattle.bar.specs.declared.Bar.{Bar}
@@ -15,26 +17,21 @@ use Rattle.position.specs.Step.{Going, other, open_of, close_of, pos_of, on, las
 use Rattle.position.specs.declared.Pos.{Pos}
 use Rattle.position.specs.declared.Pos.TheVariants.{Flat}
 use Rattle.position.specs.declared.Choice.{Choice}
-use Rattle.position.specs.declared.Reference.{Reference}
-use Rattle.position.specs.declared.Reference.TheVariants as Reference
 use Rattle.position.specs.declared.Head.{Head}
 use Rattle.position.specs.declared.Description.TheVariants.{Event as ByEvent, Stop, Timeout}
 use Rattle.position.specs.declared.Record.{Record}
-use Rattle.position.specs.declared.Decision.{Decision}
-use Rattle.position.specs.declared.Decision.TheVariants.{Nothing, By}
 use Rattle.position_laws.proofs.Acts.{closing_flat, going-opens, going_closes}
 use Rattle.position_laws.proofs.Steps.{not_empty}
 use Rattle.position_machine.specs.Update.{wrote_of, going_of, TimesOk}
 use Rattle.position_machine.specs.Rules.{silent, exit_of}
-use Rattle.position_machine.specs.declared.Wrote.TheVariants as Wrote
 use Rattle.position_machine.specs.declared.Update.{Update}
 
 -- ---- opening and closing
 
 -- an exit's closing
-abbrev close_by : Bar → Side → Decision → Going → Going
-close_by b side Nothing g = g
-close_by b side (By d) g = write b (close_of side) Flat d g.lots g
+abbrev close_by : Bar → Side → Option Description → Going → Going
+close_by b side None g = g
+close_by b side (Some d) g = write b (close_of side) Flat d g.lots g
 
 -- whether the position is on the side and may close
 abbrev may_leave : Sheet → Bar → Side → Head → Bool
@@ -62,12 +59,12 @@ module _ (s : Sheet) (b : Bar) (c : Choice) (side : Side) (lots : ℕ) (h : Head
   unfolding open_or_close
   keeps {x} ex e f = rw (e, sym (ap (λ (y : Side). may_leave s b y h) ex) ∙ f) refl
 
-  exit_closes : (r : Reference) → close_by b side (exit_of s b c side r) (silent h lots) ≡ close_on s b c side r (silent h lots)
-  exit_closes Reference.Never = refl
-  exit_closes (Reference.At r) = go (eqb c.operate (close_of side)) (stopped s side b r) (timed_out s b r)
+  exit_closes : (r : Option LastEvent) → close_by b side (exit_of s b c side r) (silent h lots) ≡ close_on s b c side r (silent h lots)
+  exit_closes None = refl
+  exit_closes (Some r) = go (eqb c.operate (close_of side)) (stopped s side b r) (timed_out s b r)
     where
       go : (x y z : Bool)
-          → close_by b side (cond x (By (ByEvent c.event)) (cond y (By Stop) (cond z (By Timeout) Nothing))) (silent h lots)
+          → close_by b side (cond x (Some (ByEvent c.event)) (cond y (Some Stop) (cond z (Some Timeout) None))) (silent h lots)
           ≡ cond x (write b (close_of side) Flat (ByEvent c.event) lots (silent h lots))
           (cond y (write b (close_of side) Flat Stop lots (silent h lots)) (cond z (write b (close_of side) Flat Timeout lots (silent h lots)) (silent h lots)))
       go true y z = refl
@@ -79,7 +76,7 @@ module _ (s : Sheet) (b : Bar) (c : Choice) (side : Side) (lots : ℕ) (h : Head
   unfolding closing
   stays e = rw e refl
 
-  pub leaves : (d : Decision) → may_leave s b side h ≡ true → exit_of s b c side h.reference ≡ d → close_by b side d (silent h lots) ≡ closing s b c side (silent h lots)
+  pub leaves : (d : Option Description) → may_leave s b side h ≡ true → exit_of s b c side h.reference ≡ d → close_by b side d (silent h lots) ≡ closing s b c side (silent h lots)
   unfolding closing
   leaves d e f = rw (e, ← f) (exit_closes h.reference)
 
@@ -90,10 +87,10 @@ module _ (s : Sheet) (b : Bar) (c : Choice) (lots : ℕ) (h : Head) where
   abbrev Left : Going → Type 0
   Left g = (g ≡ silent h lots) ⊎ ((not_empty g.wrote ≡ true) × (g.head.pos ≡ Flat))
 
-  close_by_left : (side : Side) (d : Decision) → Left (close_by b side d (silent h lots))
+  close_by_left : (side : Side) (d : Option Description) → Left (close_by b side d (silent h lots))
   unfolding write
-  close_by_left side Nothing = inl refl
-  close_by_left side (By d) = inr (refl, refl)
+  close_by_left side None = inl refl
+  close_by_left side (Some d) = inr (refl, refl)
 
   closing-left : (side : Side) → Left (closing s b c side (silent h lots))
   unfolding closing
@@ -101,7 +98,7 @@ module _ (s : Sheet) (b : Bar) (c : Choice) (lots : ℕ) (h : Head) where
       both Left (may_leave s b side h) _ (silent h lots)
       (subst Left (exit_closes s b c side lots h h.reference) (close_by_left side (exit_of s b c side h.reference))) (inl refl)
 
-  pub first-still : (u : Update) → going_of u ≡ closing s b c Side.Long (silent h lots) → u.wrote ≡ Wrote.Nothing
+  pub first-still : (u : Update) → going_of u ≡ closing s b c Side.Long (silent h lots) → u.wrote ≡ None
       → closing s b c Side.Short (silent h lots) ≡ closing s b c Side.Short (closing s b c Side.Long (silent h lots))
   first-still u e w = go (closing-left Side.Long)
     where
@@ -109,7 +106,7 @@ module _ (s : Sheet) (b : Bar) (c : Choice) (lots : ℕ) (h : Head) where
       go (inl f) = ap (closing s b c Side.Short) (sym f)
       go (inr f) = absurd (false≢true (ap (λ x. not_empty (wrote_of x)) (sym w) ∙ ap (λ (g : Going). not_empty g.wrote) e ∙ f.0))
 
-  pub first-wrote : (u : Update) (r : Record) → going_of u ≡ closing s b c Side.Long (silent h lots) → u.wrote ≡ Wrote.One r
+  pub first-wrote : (u : Update) (r : Record) → going_of u ≡ closing s b c Side.Long (silent h lots) → u.wrote ≡ Some r
       → going_of u ≡ closing s b c Side.Short (closing s b c Side.Long (silent h lots))
   first-wrote u r e w = go (closing-left Side.Long)
     where

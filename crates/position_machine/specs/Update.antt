@@ -1,5 +1,5 @@
 -- What the step's values mean, and what it asks of them. Assumes nothing.
-use Rattle.std.specs.Prelude.{◌≡◌, true, List, [], ◌∷◌, eqb}
+use Rattle.std.specs.Prelude.{◌≡◌, true, List, [], ◌∷◌, eqb, Option, None, Some}
 use Rattle.bar.specs.Bar.{time_ok}
 use Rattle.bar.specs.declared.Bar.{Bar}
 use Rattle.sheet.specs.Sheet.{Sheet}
@@ -8,17 +8,15 @@ use Rattle.position.specs.State.{open_in_range}
 use Rattle.position.specs.Step.{Going}
 use Rattle.position.specs.declared.Head.{Head}
 use Rattle.position.specs.declared.Record.{Record}
-use Rattle.position_machine.specs.declared.Wrote.{Wrote}
-use Rattle.position_machine.specs.declared.Wrote.TheVariants.{Nothing, One}
 use Rattle.position_machine.specs.declared.Update.{Update}
 
 -- steps 2 to 6 read a sheet's settings alone: a sheet of these, without texts and events
 abbrev pub of_settings : Settings → Sheet
 of_settings k = record { name = []; symbol = []; interval = k.interval; timeout = k.timeout; stop = k.stop; t0 = eqb k.t0 1; evening = k.evening; events = [] }
 
-abbrev pub wrote_of : Wrote → List Record
-wrote_of Nothing = []
-wrote_of (One r) = r ∷ []
+abbrev pub wrote_of : Option Record → List Record
+wrote_of None = []
+wrote_of (Some r) = r ∷ []
 
 -- a bar that went through all steps
 abbrev pub going_of : Update → Going

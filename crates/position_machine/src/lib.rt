@@ -11,34 +11,22 @@ use position::{Head, Hold, Pos, Record};
 
 pub mod step;
 
-// The record that a bar writes, if it writes one.
-#[derive(Clone, Copy)]
-pub enum Wrote {
-    Nothing,
-    One(Record),
-}
-
 // The header after a bar, the lots of its position, and what the bar wrote.
 #[derive(Clone, Copy)]
 pub struct Update {
     pub head: Head,
     pub lots: u16,
-    pub wrote: Wrote,
+    pub wrote: Option<Record>,
 }
 
 // The last hold with its yield up to the bar.
+#[tactic(auto, unfolding(position::specs::Step::settle))]
 pub fn settle(bar: Bar, o: Hold) -> Hold
     ensures { result ≡ Step·settle bar o }
 {
-    let time = o.time;
-    let pos = o.pos;
-    let n1b = hold_yield(o.price, bar.price);
     Hold {
-        time,
-        pos,
-        price: o.price,
-        n1b,
-        lots: o.lots,
+        n1b: hold_yield(o.price, bar.price),
+        ..o
     }
 }
 
@@ -47,21 +35,19 @@ pub fn held_lots(pos: Pos, lots: u16) -> u16
     ensures { result ≡ held_lots pos lots }
 {
     match pos {
-        Pos::Short => lots,
         Pos::Flat => 0,
-        Pos::Long => lots,
+        Pos::Short | Pos::Long => lots,
     }
 }
 
 // The bar's hold, whose yield is absent.
+#[tactic(auto, unfolding(position::specs::Step::new_hold))]
 pub fn new_hold(bar: Bar, u: Update) -> Hold
     ensures { result ≡ new_hold bar (going_of u) }
 {
-    let time = bar.time;
-    let h = u.head;
-    let pos = h.pos;
+    let pos = u.head.pos;
     Hold {
-        time,
+        time: bar.time,
         pos,
         price: bar.price,
         n1b: Yield::Absent,

@@ -7,11 +7,11 @@ ghost use Rattle.position.specs.Step.{other as Step·other, arrive as Step·arri
 ghost use Rattle.position_machine.specs.Update.{of_settings, going_of, TimesOk};
 ghost use Rattle.position_machine.specs.Rules.{silent, exit_of};
 
-use super::{Update, Wrote};
+use super::Update;
 use bar::{Bar, Time};
 use double::{Side, stop_hit};
 use operate::{LE, LO, SE, SO, is_opening};
-use position::{Choice, Decision, Description, Head, LastEvent, Open, Pos, Record, Reference};
+use position::{Choice, Description, Head, LastEvent, Pos, Record};
 use stop::stop_double;
 use table::Settings;
 
@@ -59,22 +59,11 @@ fn side_pos(side: Side) -> Pos
 fn is_on(side: Side, pos: Pos) -> bool
     ensures { result ≡ on side pos }
 {
-    match side {
-        Side::Long => match pos {
-            Pos::Long => true,
-            Pos::Flat => false,
-            Pos::Short => false,
-        },
-        Side::Short => match pos {
-            Pos::Long => false,
-            Pos::Flat => false,
-            Pos::Short => true,
-        },
-    }
+    pos == side_pos(side)
 }
 
 // The time of the side's last opening, if there was one.
-fn last_open(side: Side, h: Head) -> Open
+fn last_open(side: Side, h: Head) -> Option<Time>
     ensures { result ≡ last_open side h }
 {
     match side {
@@ -88,44 +77,40 @@ fn local_day(t: Time, evening: u16) -> i64
     requires { time_ok t ≡ true }
     ensures { result ≡ day_at evening t }
 {
-    let offset = t.offset;
-    t.instant.local(offset).day(evening)
+    t.instant.local(t.offset).day(evening)
 }
 
 // Whether there was no last opening, or its day is not the bar's.
-fn is_different_day(evening: u16, bar: Bar, last: Open) -> bool
+fn is_different_day(evening: u16, bar: Bar, last: Option<Time>) -> bool
     requires fact_1 { time_ok bar.time ≡ true }
     requires fact_2 { open_in_range last ≡ true }
     ensures { result ≡ different_day evening bar last }
 {
     match last {
-        Open::Never => true,
-        Open::At(t) => local_day(t, evening) != local_day(bar.time, evening),
+        None => true,
+        Some(t) => local_day(t, evening) != local_day(bar.time, evening),
     }
 }
 
 // Whether there was no last opening, or more whole seconds than the interval lie between: equality does not pass.
-fn allow_open(k: Settings, bar: Bar, last: Open) -> bool
+fn allow_open(k: Settings, bar: Bar, last: Option<Time>) -> bool
     requires fact_1 { time_ok bar.time ≡ true }
     requires fact_2 { open_in_range last ≡ true }
     ensures { result ≡ allowed (of_settings k) bar last }
 {
     match last {
-        Open::Never => true,
-        Open::At(t) => t.instant.seconds_to(bar.time.instant) > k.interval as i64,
+        None => true,
+        Some(t) => t.instant.seconds_to(bar.time.instant) > k.interval as i64,
     }
 }
 
 // Whether t0 lets a side that was last opened then close on this bar, or else the day does.
-fn allowed_by_t0(k: Settings, bar: Bar, last: Open) -> bool
+fn allowed_by_t0(k: Settings, bar: Bar, last: Option<Time>) -> bool
     requires fact_1 { time_ok bar.time ≡ true }
     requires fact_2 { open_in_range last ≡ true }
     ensures { result ≡ may_close (of_settings k) bar last }
 {
-    if k.t0 == 1 {
-        return true;
-    }
-    is_different_day(k.evening, bar, last)
+    k.t0 == 1 || is_different_day(k.evening, bar, last)
 }
 
 // Whether the position is not on the side yet, and an opening is allowed.
@@ -133,11 +118,7 @@ fn can_open(k: Settings, bar: Bar, side: Side, h: Head) -> bool
     requires { TimesOk bar h }
     ensures { result ≡ allowed (of_settings k) bar (last_open side h) && not (on side h.pos) }
 {
-    let pos = h.pos;
-    if is_on(side, pos) {
-        return false;
-    }
-    allow_open(k, bar, last_open(side, h))
+    !is_on(side, h.pos) && allow_open(k, bar, last_open(side, h))
 }
 
 // Whether the position is on the side, and may close.
@@ -145,14 +126,11 @@ fn can_close(k: Settings, bar: Bar, side: Side, h: Head) -> bool
     requires { TimesOk bar h }
     ensures { result ≡ on side h.pos && may_close (of_settings k) bar (last_open side h) }
 {
-    let pos = h.pos;
-    if !is_on(side, pos) {
-        return false;
-    }
-    allowed_by_t0(k, bar, last_open(side, h))
+    is_on(side, h.pos) && allowed_by_t0(k, bar, last_open(side, h))
 }
 
 // Whether the price has passed the stop, against the reference's.
+#[tactic(auto, unfolding(position::specs::Step::stopped))]
 fn is_stopped(k: Settings, side: Side, bar: Bar, e: LastEvent) -> bool
     ensures { result ≡ stopped (of_settings k) side bar e }
 {
@@ -160,47 +138,38 @@ fn is_stopped(k: Settings, side: Side, bar: Bar, e: LastEvent) -> bool
 }
 
 // Whether the id is more than the timeout past the reference's: equality does not pass, nor does an id below the reference's.
+#[tactic(auto, unfolding(position::specs::Step::timed_out))]
 fn is_timed_out(k: Settings, bar: Bar, e: LastEvent) -> bool
     ensures { result ≡ timed_out (of_settings k) bar e }
 {
-    let id = e.bar.id;
-    if bar.id < id {
-        return false;
-    }
-    bar.id - id > k.timeout
+    bar.id.saturating_sub(e.bar.id) > k.timeout
 }
 
 // The reference from this bar on: an LO or SO makes the bar and its event the reference.
-fn last_event(bar: Bar, c: Choice, last: Reference) -> Reference
+fn last_event(bar: Bar, c: Choice, last: Option<LastEvent>) -> Option<LastEvent>
     ensures { result ≡ reference_for bar c last }
 {
     if is_opening(c.operate) {
-        return Reference::At(LastEvent {
+        Some(LastEvent {
             bar,
             operate: c.operate,
             event: c.event as u32,
-        });
+        })
+    } else {
+        last
     }
-    last
 }
 
 // The header as the bar comes: not changed, and ended by the bar.
+#[tactic(auto, unfolding(position::specs::Step::arrive))]
 fn arrive(bar: Bar, c: Choice, h: Head) -> Head
     ensures { (lots : ℕ) → silent result lots ≡ Step·arrive bar c lots h }
 {
-    let pos = h.pos;
-    let end = bar.time;
-    let long = h.long;
-    let short = h.short;
-    let last = h.reference;
-    let reference = last_event(bar, c, last);
     Head {
-        pos,
         changed: false,
-        end,
-        long,
-        short,
-        reference,
+        end: bar.time,
+        reference: last_event(bar, c, h.reference),
+        ..h
     }
 }
 
@@ -208,34 +177,20 @@ fn arrive(bar: Bar, c: Choice, h: Head) -> Head
 fn open_now(side: Side, bar: Bar, h: Head) -> Head
     ensures { (lots : ℕ) → silent result lots ≡ open_now side bar (silent h lots) }
 {
-    let pos = h.pos;
-    let end = h.end;
-    let long = h.long;
-    let short = h.short;
-    let reference = h.reference;
-    let time = bar.time;
-    let now = Open::At(time);
     match side {
         Side::Long => Head {
-            pos,
-            changed: h.changed,
-            end,
-            long: now,
-            short,
-            reference,
+            long: Some(bar.time),
+            ..h
         },
         Side::Short => Head {
-            pos,
-            changed: h.changed,
-            end,
-            long,
-            short: now,
-            reference,
+            short: Some(bar.time),
+            ..h
         },
     }
 }
 
 // The header changed to a position, and the record of it with the lots opened or closed.
+#[tactic(auto, unfolding(position::specs::Step::write))]
 fn create_operate_record(
     bar: Bar,
     operate: u8,
@@ -246,10 +201,6 @@ fn create_operate_record(
 ) -> Update
     ensures { (before : ℕ) → going_of result ≡ write bar operate pos description lots (silent h before) }
 {
-    let end = h.end;
-    let long = h.long;
-    let short = h.short;
-    let reference = h.reference;
     let record = Record {
         bar,
         operate,
@@ -261,13 +212,10 @@ fn create_operate_record(
         head: Head {
             pos,
             changed: true,
-            end,
-            long,
-            short,
-            reference,
+            ..h
         },
         lots,
-        wrote: Wrote::One(record),
+        wrote: Some(record),
     }
 }
 
@@ -277,45 +225,47 @@ fn open_or_close(k: Settings, bar: Bar, c: Choice, side: Side, lots: u16, h: Hea
     ensures { going_of result ≡ open_or_close (of_settings k) bar c side (silent h lots) }
 {
     let description = Description::Event(c.event);
+    let against = other(side);
     if can_open(k, bar, side, h) {
-        return create_operate_record(
+        let opened = open_now(side, bar, h);
+        create_operate_record(
             bar,
             open_operate(side),
             side_pos(side),
             description,
             c.lots,
-            open_now(side, bar, h),
-        );
-    }
-    let against = other(side);
-    if can_close(k, bar, against, h) {
-        return create_operate_record(bar, close_operate(against), Pos::Flat, description, lots, h);
-    }
-    Update {
-        head: h,
-        lots,
-        wrote: Wrote::Nothing,
+            opened,
+        )
+    } else if can_close(k, bar, against, h) {
+        create_operate_record(bar, close_operate(against), Pos::Flat, description, lots, h)
+    } else {
+        Update {
+            head: h,
+            lots,
+            wrote: None,
+        }
     }
 }
 
 // What closes the side, if anything does: the event, else the stop, else the timeout.
-fn exit_desc(k: Settings, bar: Bar, c: Choice, side: Side, last: Reference) -> Decision
+fn exit_desc(
+    k: Settings,
+    bar: Bar,
+    c: Choice,
+    side: Side,
+    last: Option<LastEvent>,
+) -> Option<Description>
     ensures { result ≡ exit_of (of_settings k) bar c side last }
 {
-    match last {
-        Reference::Never => Decision::Nothing,
-        Reference::At(e) => {
-            if c.operate == close_operate(side) {
-                return Decision::By(Description::Event(c.event));
-            }
-            if is_stopped(k, side, bar, e) {
-                return Decision::By(Description::Stop);
-            }
-            if is_timed_out(k, bar, e) {
-                return Decision::By(Description::Timeout);
-            }
-            Decision::Nothing
-        }
+    let e = last?;
+    if c.operate == close_operate(side) {
+        Some(Description::Event(c.event))
+    } else if is_stopped(k, side, bar, e) {
+        Some(Description::Stop)
+    } else if is_timed_out(k, bar, e) {
+        Some(Description::Timeout)
+    } else {
+        None
     }
 }
 
@@ -327,16 +277,14 @@ fn close(k: Settings, bar: Bar, c: Choice, side: Side, lots: u16, h: Head) -> Up
     let same = Update {
         head: h,
         lots,
-        wrote: Wrote::Nothing,
+        wrote: None,
     };
     if !can_close(k, bar, side, h) {
         return same;
     }
-    let last = h.reference;
-    let exit = exit_desc(k, bar, c, side, last);
-    match exit {
-        Decision::Nothing => same,
-        Decision::By(description) => create_operate_record(
+    match exit_desc(k, bar, c, side, h.reference) {
+        None => same,
+        Some(description) => create_operate_record(
             bar,
             close_operate(side),
             Pos::Flat,
@@ -361,9 +309,8 @@ pub fn update(k: Settings, bar: Bar, c: Choice, lots: u16, h: Head) -> Update
         return open_or_close(k, bar, c, Side::Short, lots, arrived);
     }
     let u = close(k, bar, c, Side::Long, lots, arrived);
-    let wrote = u.wrote;
-    match wrote {
-        Wrote::Nothing => close(k, bar, c, Side::Short, lots, arrived),
-        Wrote::One(_) => u,
+    match u.wrote {
+        None => close(k, bar, c, Side::Short, lots, arrived),
+        Some(_) => u,
     }
 }

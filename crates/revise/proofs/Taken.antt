@@ -2,7 +2,7 @@
 use Prim.Native.Nat.{ℕ, ◌≤◌}
 use native.Mathlib.Omega.{arith}
 use mathlib.Core.List.{List, [], append-nil}
-use mathlib.Core.Option.{some}
+use Rattle.std.specs.Prelude.{Some}
 use mathlib.Core.Path.{◌≡◌, refl, sym, ap, ◌∙◌}
 use borrow.Author.Tests.{leb-true}
 use lib.Dec.{leb, eqb}
@@ -30,7 +30,7 @@ pub record Revised (table b text x : List ℕ) : Type 0 where
   pub bars : ℕ
   pub sheet : Sheet
   pub es : List Entry
-  pub sized : capacity b ≡ some bars
+  pub sized : capacity b ≡ Some bars
   pub meant : read_table table ≡ Got sheet
   pub read : read_entries text ≡ Got es
   pub few : length (chosen es) ≤ bars

@@ -1,4 +1,8 @@
 -- What a bar's line says by its fields: the five behind the tag, and all six. Assumes nothing.
+use Rattle.revise_first.specs.declared.Revised.{Revised}
+use Rattle.revise_first.specs.declared.FirstError.{FirstError}
+use Rattle.revise_first.specs.declared.FirstError.TheVariants.{Malformed, BadNumber}
+use Rattle.std.specs.Prelude.{Result, Err, Some, None}
 use Prim.Native.Nat.{ℕ, ◌+◌, ◌-◌, ◌≤◌}
 use native.Mathlib.Decide.{dec_le}
 use native.Mathlib.Omega.{arith}
@@ -19,15 +23,11 @@ use Rattle.text.proofs.Laws.{part_cons}
 use Rattle.bar.specs.declared.BarNumbers.{BarNumbers}
 use Rattle.position.specs.Run.{bar_line}
 use Rattle.run_input.specs.Lines.{BarAs}
-use Rattle.run_input.specs.declared.InputLine.TheVariants as InputLine
 use Rattle.revise.specs.Entries.{last_revision, fields_in, first_line}
 use Rattle.revise.specs.Lines.{is_bar}
 use Rattle.revise.specs.Places.{LineEnd}
 use Rattle.revise.proofs.Lines.{bar-begins, line-ended, line-text, line_open}
 use Rattle.revise_first.specs.First.{FirstAs, FieldsAs, RangedAs, LastPipe, RevisionAs, ranged_do, fields_do}
-use Rattle.revise_first.specs.declared.FirstLine.{FirstLine}
-use Rattle.revise_first.specs.declared.FirstLine.TheVariants as FirstLine
-use Rattle.revise_first.specs.declared.RevisionRead.TheVariants as RevisionRead
 
 -- ---- `read_fields`
 
@@ -40,15 +40,15 @@ module _ {s : List ℕ} {from to last : ℕ} (five : length (split pipe (slice f
   steps = sym (rw (l.fields, take_at (split pipe (slice from last s)) (slice (last + 1) to s ∷ []) 4 four, get_or_at (split pipe (slice from last s)) (slice (last + 1) to s) [] [] 4 four))
 
   -- a field of the bar is malformed
-  pub fields-bar : BarAs (slice from last s) InputLine.BadNumber → FieldsAs (slice from to s) FirstLine.BadNumber
+  pub fields-bar : BarAs (slice from last s) None → FieldsAs (slice from to s) (Err BadNumber)
   fields-bar w = record { is = sym (sym steps ∙ rw (← w.is)); ok = tt }
 
-  module _ {b : BarNumbers} (w : BarAs (slice from last s) (InputLine.Bar b)) where
+  module _ {b : BarNumbers} (w : BarAs (slice from last s) (Some b)) where
     -- the revision is
-    pub fields-revision : RevisionAs (slice (last + 1) to s) RevisionRead.Bad → FieldsAs (slice from to s) FirstLine.BadNumber
+    pub fields-revision : RevisionAs (slice (last + 1) to s) None → FieldsAs (slice from to s) (Err BadNumber)
     fields-revision q = record { is = sym (sym steps ∙ rw (← w.is, ← q.is)); ok = tt }
 
-    pub fields_read : {v : ℕ} {r : FirstLine} → RevisionAs (slice (last + 1) to s) (RevisionRead.Is v) → RangedAs b v r → FieldsAs (slice from to s) r
+    pub fields_read : {v : ℕ} {r : (Result Revised FirstError)} → RevisionAs (slice (last + 1) to s) (Some v) → RangedAs b v r → FieldsAs (slice from to s) r
     unfolding ranged_do
     fields_read q k = record { is = k.is ∙ sym (sym steps ∙ rw (← w.is, ← q.is)); ok = k.ok }
 
@@ -69,12 +69,12 @@ unfolding split onto bytes encoded
 tagged y = refl
 
 module _ {s : List ℕ} {at end : ℕ} (e : LineEnd s at end) where
-  pub first-other : is_bar (slice at end s) ≡ false → FirstAs (slice at end s) FirstLine.Malformed
+  pub first-other : is_bar (slice at end s) ≡ false → FirstAs (slice at end s) (Err Malformed)
   unfolding first_line
   first-other h = record { is = rw h; ok = tt }
 
   module _ (b : is_bar (slice at end s) ≡ true) where
-    pub first_open : get_or s (end - 1) 0 ≢ LF → FirstAs (slice at end s) FirstLine.Malformed
+    pub first_open : get_or s (end - 1) 0 ≢ LF → FirstAs (slice at end s) (Err Malformed)
     unfolding first_line
     first_open h = record { is = rw (b, line_open e h); ok = tt }
 
@@ -97,7 +97,7 @@ module _ {s : List ℕ} {at end : ℕ} (e : LineEnd s at end) where
       texts : fields_in (slice at end s) ≡ split pipe (slice at (end - 1) s)
       texts = ap (split pipe) (line-text e h)
 
-      pub first_count : length (split pipe (slice at (end - 1) s)) ≢ 6 → FirstAs (slice at end s) FirstLine.Malformed
+      pub first_count : length (split pipe (slice at (end - 1) s)) ≢ 6 → FirstAs (slice at end s) (Err Malformed)
       unfolding first_line
       first_count n = record { is = rw (b, line-ended e h, texts, ne_eqb _ _ n); ok = tt }
 
@@ -125,6 +125,6 @@ module _ {s : List ℕ} {at end : ℕ} (e : LineEnd s at end) where
         pub first_five : length (split pipe (slice (at + 2) (end - 1) s)) ≡ 5
         first_five = omega (arith, ap length fields)
 
-        pub first-is : {r : FirstLine} → FieldsAs (slice (at + 2) (end - 1) s) r → FirstAs (slice at end s) r
+        pub first-is : {r : (Result Revised FirstError)} → FieldsAs (slice (at + 2) (end - 1) s) r → FirstAs (slice at end s) r
         unfolding first_line fields_do ranged_do
         first-is w = record { is = w.is ∙ sym (rw (b, line-ended e h, texts, eq-eqb _ _ six, fields)); ok = w.ok }

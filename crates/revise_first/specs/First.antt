@@ -1,5 +1,7 @@
 -- What the code's answers say of a bar's line with its revision. Assumes nothing.
-use Rattle.std.specs.Prelude.{ℕ, ◌+◌, ◌<◌, ◌≤◌, true, List, [], ◌∷◌, ◌++◌, ◌≡◌, length, get_or, take}
+use Rattle.revise_first.specs.declared.FirstError.{FirstError}
+use Rattle.revise_first.specs.declared.FirstError.TheVariants.{Malformed, BadNumber, BadBar}
+use Rattle.std.specs.Prelude.{ℕ, ◌+◌, ◌<◌, ◌≤◌, true, List, [], ◌∷◌, ◌++◌, ◌≡◌, length, get_or, take, Result, Ok, Err, Option, Some, None}
 use Rattle.std.specs.Float.Ieee.Scale.{finite}
 use Rattle.std.proofs.Math.Seq.{slice}
 use Rattle.text.specs.Answer.{Answer, Refused, Got, ◌>>=◌}
@@ -12,27 +14,25 @@ use Rattle.position.specs.Feed.{Input}
 use Rattle.position.specs.Run.{bar_line}
 use Rattle.revise.specs.Entries.{last_revision, Revision, first_line}
 use Rattle.revise_first.specs.declared.Revised.{Revised}
-use Rattle.revise_first.specs.declared.FirstLine.{FirstLine}
-use Rattle.revise_first.specs.declared.FirstLine.TheVariants as FirstLine
-use Rattle.revise_first.specs.declared.RevisionRead.{RevisionRead}
-use Rattle.revise_first.specs.declared.RevisionRead.TheVariants as RevisionRead
 
--- the number of each answer, and the bar with its revision
-abbrev pub first_of : FirstLine → Answer Revision
-first_of (FirstLine.Is r) = Got (record { bar = r.bar; number = r.revision })
-first_of FirstLine.Malformed = Refused 2
-first_of FirstLine.BadNumber = Refused 3
-first_of FirstLine.BadBar = Refused 11
+-- the number of each refusal
+abbrev pub first_refusal : FirstError → ℕ
+first_refusal Malformed = 2
+first_refusal BadNumber = 3
+first_refusal BadBar = 11
+
+-- the bar with its revision, or that number
+abbrev pub first_of : Result Revised FirstError → Answer Revision
+first_of (Ok r) = Got (record { bar = r.bar; number = r.revision })
+first_of (Err e) = Refused (first_refusal e)
 
 -- a bar's time and price are in range
-abbrev pub FirstOk : FirstLine → Type 0
-FirstOk (FirstLine.Is r) = (time_ok r.bar.time ≡ true) × (finite r.bar.price ≡ true)
-FirstOk FirstLine.Malformed = Unit {0}
-FirstOk FirstLine.BadNumber = Unit {0}
-FirstOk FirstLine.BadBar = Unit {0}
+abbrev pub FirstOk : Result Revised FirstError → Type 0
+FirstOk (Ok r) = (time_ok r.bar.time ≡ true) × (finite r.bar.price ≡ true)
+FirstOk (Err e) = Unit {0}
 
 -- r is what the line l says
-pub record FirstAs (l : List ℕ) (r : FirstLine) : Type 0 where
+pub record FirstAs (l : List ℕ) (r : Result Revised FirstError) : Type 0 where
   pub is : first_of r ≡ first_line l
   pub ok : FirstOk r
 
@@ -42,7 +42,7 @@ pub record FirstAs (l : List ℕ) (r : FirstLine) : Type 0 where
 unfoldable pub ranged_do : Input → ℕ → Answer Revision
 ranged_do i r = bar_of i.id i.instant i.offset i.price >>= λ b. Got (record { bar = b; number = r })
 
-pub record RangedAs (n : BarNumbers) (revision : ℕ) (r : FirstLine) : Type 0 where
+pub record RangedAs (n : BarNumbers) (revision : ℕ) (r : Result Revised FirstError) : Type 0 where
   pub is : first_of r ≡ (bar_of n.id n.instant n.offset n.price >>= λ b. Got (record { bar = b; number = revision }))
   pub ok : FirstOk r
 
@@ -53,7 +53,7 @@ fields_do f = do
   r ← unsigned last_revision (get_or f 4 [])
   ranged_do i r
 
-pub record FieldsAs (l : List ℕ) (r : FirstLine) : Type 0 where
+pub record FieldsAs (l : List ℕ) (r : Result Revised FirstError) : Type 0 where
   pub is : first_of r ≡ fields_do (split pipe l)
   pub ok : FirstOk r
 
@@ -63,10 +63,10 @@ pub record LastPipe (s : List ℕ) (from to r : ℕ) : Type 0 where
   pub high : r < to
   pub fields : split pipe (slice from to s) ≡ split pipe (slice from r s) ++ slice (r + 1) to s ∷ []
 
-abbrev pub revision_of : RevisionRead → Answer ℕ
-revision_of (RevisionRead.Is v) = Got v
-revision_of RevisionRead.Bad = Refused 3
+abbrev pub revision_of : Option ℕ → Answer ℕ
+revision_of (Some v) = Got v
+revision_of None = Refused 3
 
 -- the revision that a field says
-pub record RevisionAs (l : List ℕ) (r : RevisionRead) : Type 0 where
+pub record RevisionAs (l : List ℕ) (r : Option ℕ) : Type 0 where
   pub is : revision_of r ≡ unsigned last_revision l

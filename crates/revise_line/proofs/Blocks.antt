@@ -1,5 +1,6 @@
 -- The first LF by blocks of 64 bytes: the invariants of `lf_block` and `find_lf`. Assumes nothing.
 use Prim.Native.Nat.{ℕ, zero, suc, ◌+◌, ◌<◌, ◌≤◌}
+use Rattle.std.specs.Prelude.{min}
 use native.Mathlib.Decide.{dec_lt, ℕ_discrete}
 use native.Mathlib.Omega.{arith}
 use mathlib.Core.List.{List}
@@ -11,7 +12,7 @@ use Rattle.text.specs.Read.{index_of, index_after}
 use Rattle.text.specs.Read.{FirstAt}
 use Rattle.text.specs.Text.{LF}
 use Rattle.text.proofs.Laws.{part_cons}
-use Rattle.revise_line.specs.Find.{Lesser, Placed, BlockEnd, FirstLf}
+use Rattle.revise_line.specs.Find.{Placed, BlockEnd, FirstLf}
 
 -- ---- the first b
 
@@ -55,16 +56,16 @@ pub looked_start : (s : List ℕ) (i : ℕ) → Looked s i 64 0
 looked_start s i = record { few = omega arith; most = omega arith; none = λ j l. absurd (omega arith); last = λ l. absurd (omega arith) }
 
 module _ {s : List ℕ} {i first k : ℕ} (l : Looked s i first k) where
-  pub looked_more : k < 64 → {x r : ℕ} → Placed (get_or s (i + k) 0) k x → Lesser first x r → Looked s i r (k + 1)
-  looked_more h {x} {r} p m = record { few = omega arith; most = omega (arith, l.most, m.left); none = none; last = last }
+  pub looked_more : k < 64 → {x r : ℕ} → Placed (get_or s (i + k) 0) k x → r ≡ min first x → Looked s i r (k + 1)
+  looked_more h {x} {r} p m = record { few = omega arith; most = omega (arith, l.most, m); none = none; last = last }
     where
       none : (j : ℕ) → j < k + 1 → j < r → get_or s (i + j) 0 ≢ LF
       none j a b e =
           elim (dec_lt j k) [
-            | yes g ↦ l.none j g (omega (arith, m.left)) e
+            | yes g ↦ l.none j g (omega (arith, m)) e
             | no g ↦
                 let z : j ≡ k = omega arith in
-                absurd (omega (arith, m.right, p.mark (rw z at e)))
+                absurd (omega (arith, m, p.mark (rw z at e)))
           ]
 
       last : r < 64 → get_or s (i + r) 0 ≡ LF
@@ -74,9 +75,9 @@ module _ {s : List ℕ} {i first k : ℕ} (l : Looked s i first k) where
             | no g ↦
                 elim (ℕ_discrete (get_or s (i + k) 0) LF) [
                   | yes e ↦
-                      let z : r ≡ k = omega (arith, m.one g, p.mark e) in
+                      let z : r ≡ k = omega (arith, m, g, p.mark e) in
                       rw z e
-                  | no e ↦ absurd (omega (arith, m.one g, p.plain e))
+                  | no e ↦ absurd (omega (arith, m, g, p.plain e))
                 ]
           ]
 

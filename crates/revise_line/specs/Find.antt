@@ -3,11 +3,6 @@ use Rattle.std.specs.Prelude.{ℕ, ◌+◌, ◌<◌, ◌≤◌, List, ◌≢◌,
 use Rattle.text.specs.Read.{FirstAt}
 use Rattle.text.specs.Text.{LF}
 
-pub record Lesser (a b r : ℕ) : Type 0 where
-  pub left : r ≤ a
-  pub right : r ≤ b
-  pub one : r ≢ a → r ≡ b
-
 -- x is the place k of an LF, or 64
 pub record Placed (b k x : ℕ) : Type 0 where
   pub mark : b ≡ LF → x ≡ k

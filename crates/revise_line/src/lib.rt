@@ -7,28 +7,15 @@ ghost use Rattle.text.specs.Read.{Part};
 ghost use Rattle.text.specs.Text.{pipe, begins};
 ghost use Rattle.revise.specs.Lines.{is_bar, is_signal};
 ghost use Rattle.revise.specs.Places.{LineEnd};
-ghost use Rattle.revise_line.specs.Find.{Lesser, Placed, BlockEnd, FirstLf};
+ghost use Rattle.revise_line.specs.Find.{Placed, BlockEnd, FirstLf};
 
 use text::{LF, PIPE, find};
-
-// The lesser of two numbers.
-fn lesser(a: u8, b: u8) -> u8
-    ensures { Lesser a b result }
-{
-    if b < a {
-        return b;
-    }
-    a
-}
 
 // k where b is LF, else 64.
 fn place(b: u8, k: u8) -> u8
     ensures { Placed b k result }
 {
-    if b == LF {
-        return k;
-    }
-    64
+    if b == LF { k } else { 64 }
 }
 
 // How many of 64 bytes from i on stand before the first LF: each is looked at, with no way out before the end, so that the compiler looks at many at once.
@@ -37,10 +24,8 @@ fn lf_block(s: &[u8], i: usize) -> usize
     ensures { BlockEnd s.now i result }
 {
     let mut first: u8 = 64;
-    let mut k: u8 = 0;
-    while k < 64 {
-        first = lesser(first, place(s[i + k as usize], k));
-        k += 1;
+    for k in 0..64u8 {
+        first = first.min(place(s[i + k as usize], k));
     }
     first as usize
 }
@@ -52,6 +37,7 @@ fn find_lf(s: &[u8], from: usize) -> usize
 {
     let n = s.len();
     let mut i = from;
+    // A while loop: it leaves at the first block that has an LF.
     while 64 <= n - i {
         let k = lf_block(s, i);
         if k < 64 {
@@ -67,12 +53,8 @@ pub fn line_end(s: &[u8], at: usize) -> usize
     requires { at < length s.now }
     ensures { LineEnd s.now at result }
 {
-    let n = s.len();
     let lf = find_lf(s, at);
-    if lf == n {
-        return n;
-    }
-    lf + 1
+    if lf == s.len() { lf } else { lf + 1 }
 }
 
 // Whether s in from..to begins with the tag and `|`.
@@ -80,13 +62,7 @@ fn is_tagged(s: &[u8], from: usize, to: usize, tag: u8) -> bool
     requires { Part s.now from to }
     ensures { result ≡ begins (tag ∷ pipe ∷ []) (slice from to s.now) }
 {
-    if to - from < 2 {
-        return false;
-    }
-    if s[from] != tag {
-        return false;
-    }
-    s[from + 1] == PIPE
+    2 <= to - from && s[from] == tag && s[from + 1] == PIPE
 }
 
 // Whether s in from..to begins `B|`.

@@ -1,6 +1,5 @@
 -- The event that signals choose, as a number. Assumes nothing.
-use Rattle.std.specs.Prelude.{ℕ, ◌+◌, ◌<◌, ◌≤◌, cond, List, [], ◌∷◌, ◌≡◌, eqb, length, get_or}
-use Rattle.std.proofs.Math.Option.{Option, none, some}
+use Rattle.std.specs.Prelude.{ℕ, ◌+◌, ◌<◌, ◌≤◌, cond, List, [], ◌∷◌, ◌≡◌, eqb, length, get_or, Option, None, Some}
 use Rattle.text.specs.Answer.{Got}
 use Rattle.event.specs.Signals.{Line}
 use Rattle.event.specs.Match.{first_match}
@@ -10,12 +9,12 @@ use Rattle.revise.specs.Entries.{Entry, read_entries}
 
 -- 65535 is no event
 abbrev pub match_in : ℕ → Option ℕ
-match_in code = cond (eqb code 65535) none (some code)
+match_in code = cond (eqb code 65535) None (Some code)
 
 -- the number stands for the first match of the signals, an event of the table
 pub record MatchedAt (t : List ℕ) (code : ℕ) (ls : List Line) : Type 0 where
   pub is : match_in code ≡ first_match (sheet_of (parts_in t)).events ls
-  pub below : (i : ℕ) → match_in code ≡ some i → i < (counts_in t).events
+  pub below : (i : ℕ) → match_in code ≡ Some i → i < (counts_in t).events
 
 -- of all entries, from number k on
 abbrev pub MatchedFrom : List ℕ → List ℕ → ℕ → List Entry → Type 0

@@ -4,10 +4,9 @@
 ghost use Rattle.std.specs.Prelude.{◌≡◌, true};
 ghost use Rattle.event_find.specs.Places.{lines_at, LinesOk};
 ghost use Rattle.table.specs.Table.{is_table};
-ghost use Rattle.table_match.specs.First.{match_of};
 ghost use Rattle.revise_match.specs.Matched.{match_in, MatchedAt};
 
-use table_match::{Match, first_match};
+use table_match::first_match;
 
 // What stands for no event.
 const NOTHING: u16 = 65535;
@@ -26,17 +25,18 @@ pub fn match_code(
     ensures { MatchedAt t.now result (lines_at s.now starts.now mids.now n) }
 {
     match first_match(t, s, starts, mids, prints, n) {
-        Match::Event(i) => i as u16,
-        Match::Nothing => NOTHING,
+        Some(i) => i as u16,
+        None => NOTHING,
     }
 }
 
 // The match that a number stands for.
-pub fn match_of(code: u16) -> Match
-    ensures { match_of result ≡ match_in code }
+pub fn match_of(code: u16) -> Option<usize>
+    ensures { result ≡ match_in code }
 {
     if code == NOTHING {
-        return Match::Nothing;
+        None
+    } else {
+        Some(code as usize)
     }
-    Match::Event(code as usize)
 }

@@ -2,7 +2,7 @@
 use Prim.Native.Nat.{ℕ, ◌+◌, ◌-◌, ◌<◌, ◌≤◌}
 use native.Mathlib.Omega.{arith}
 use mathlib.Core.Bool.{true, false}
-use mathlib.Core.List.{List, [], ◌∷◌, ◌++◌, append-nil, append_assoc}
+use mathlib.Core.List.{List, [], ◌++◌, append-nil, append_assoc}
 use mathlib.Core.Path.{◌≡◌, refl, sym, ap, ◌∙◌}
 use lib.ListN.{length, take, drop, length-append}
 use lib.Seq.{slice, length-slice, length-take-le, drop-drop, take_at, slice_empty}
@@ -11,7 +11,7 @@ use Rattle.text.specs.Read.{Put}
 use Rattle.utf8.specs.Alone.{text_limit}
 use Rattle.revise.specs.Lines.{is_signal, bar_count, signal_lines}
 use Rattle.revise.specs.Entries.{entries}
-use Rattle.revise.specs.Places.{lines_in, LineEnd, SignalsEnd}
+use Rattle.revise.specs.Places.{lines_in, LineEnd}
 use Rattle.revise.proofs.Lines.{lines_end, part_two}
 use Rattle.revise.proofs.Tags.{signal-long, signals-more, entries-more, bars-more, signals-stop, signals-none}
 use Rattle.revise_signals.specs.Taken.{Copied, TooMany}

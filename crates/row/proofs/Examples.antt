@@ -1,13 +1,14 @@
 -- Case *1's rows, asked of its book by its table, and what is refused; computed from the definitions. Assumes nothing.
+use Rattle.std.specs.Prelude.{Some}
 use Prim.Native.Nat.{ℕ}
 use mathlib.Core.List.{List, ◌++◌}
 use mathlib.Core.Path.{◌≡◌, refl}
 use lib.IntN.{pos, negsuc}
 use lib.Ieee.{binary64, of_bits}
 use lib.ListN.{replicate}
+use Rattle.double.specs.declared.Yield.TheVariants.{Bp}
 use Rattle.text.specs.Answer.{Answer, Refused, Got}
 use Rattle.text.specs.Literal.{bytes}
-use Rattle.double.specs.declared.Yield.TheVariants.{Bp}
 use Rattle.position.specs.Feed.{Accepted}
 use Rattle.table.proofs.Examples.{soy}
 use Rattle.book.specs.Layout.{fresh_book}

@@ -1,7 +1,5 @@
 -- Row requests: the number, the values and the row buffer at exit, for every input. Assumes nothing.
-use Rattle.std.specs.Prelude.{ℕ, List, ◌++◌, map, leb, eqb, ℤ, pos, negsuc, length}
-use Rattle.std.proofs.Math.Option.{Option, none}
-use Rattle.std.proofs.Math.ListN.{get_elem?}
+use Rattle.std.specs.Prelude.{ℕ, List, ◌++◌, map, leb, eqb, ℤ, pos, negsuc, length, Option, None, slice_get}
 use Rattle.le.specs.Le.{patch}
 use Rattle.text.specs.Answer.{Answer, Refused, Got, ◌>>=◌, must, given}
 use Rattle.sheet.specs.Sheet.{name_limit}
@@ -19,8 +17,8 @@ row_buffer = 2048
 
 -- "row index, from 0, past the last" (15); one below 0 is no row either
 abbrev pub row_at : {X : Type 0} → List X → ℤ → Option X
-row_at rows (pos i) = get_elem? rows i
-row_at rows (negsuc i) = none
+row_at rows (pos i) = slice_get rows i
+row_at rows (negsuc i) = None
 
 -- "Rows: 8, 9, 10, 15." "row buffer short" (8)
 unfoldable pub pair_do : List ℕ → List ℕ → ℤ → List ℕ → Answer Pair

@@ -1,2 +1,3 @@
 -- The definitions of row requests.
 pub mod Calls
+pub mod Read

@@ -4,12 +4,12 @@ use Prim.Native.Nat.{ℕ, zero, suc, ◌+◌, ◌-◌, ◌≤◌}
 use native.Mathlib.Omega.{arith}
 use mathlib.Core.Bool.{Bool, true, false, cond}
 use mathlib.Core.List.{List, [], ◌∷◌, map}
-use mathlib.Core.Option.{some}
+use Rattle.std.specs.Prelude.{Some, slice_get}
 use mathlib.Core.Path.{◌≡◌, ◌∙◌, refl, sym, ap}
 use borrow.Author.Tests.{le-leb, leb-true}
 use lib.Dec.{leb}
 use lib.IntN.{ℤ, pos, negsuc, ◌+ℤ◌}
-use lib.ListN.{length, drop, get_elem?, length-append}
+use lib.ListN.{length, drop, length-append}
 use Rattle.le.specs.Le.{le_bytes}
 use Rattle.le.proofs.Laws.{length-le_bytes}
 use Rattle.text.specs.Answer.{Got, given}
@@ -25,7 +25,7 @@ use Rattle.row_blocks.specs.Blocks.{hold_row_bytes, hold_row_length, pair_row_by
 
 -- ---- lists
 
-at_drop : {X : Type 0} (xs : List X) (i k : ℕ) → get_elem? (drop i xs) k ≡ get_elem? xs (i + k)
+at_drop : {X : Type 0} (xs : List X) (i k : ℕ) → slice_get (drop i xs) k ≡ slice_get xs (i + k)
 at_drop xs zero k =
     let e : 0 + k ≡ k = omega arith in
     rw e
@@ -34,19 +34,19 @@ at_drop (x ∷ xs) (suc i) k =
     let e : suc i + k ≡ suc (i + k) = omega arith in
     rw e (at_drop xs i k)
 
-at_map : {X Y : Type 0} (f : X → Y) (xs : List X) (k : ℕ) (y : Y) → get_elem? (map f xs) k ≡ some y → (x : X) × (get_elem? xs k ≡ some x) × (f x ≡ y)
+at_map : {X Y : Type 0} (f : X → Y) (xs : List X) (k : ℕ) (y : Y) → slice_get (map f xs) k ≡ Some y → (x : X) × (slice_get xs k ≡ Some x) × (f x ≡ y)
 at_map f [] k y e = absurd (let z : ◌≡◌ {A = ℕ} 0 1 = cc in omega arith)
 at_map f (x ∷ xs) zero y e = (x, refl, cc)
 at_map f (x ∷ xs) (suc k) y e = at_map f xs k y e
 
 -- a row that fits is one of the rows, in its place
-fitting-at : (room : ℕ) (rs : List (List ℕ)) (k : ℕ) (r : List ℕ) → get_elem? (fitting room rs) k ≡ some r → get_elem? rs k ≡ some r
+fitting-at : (room : ℕ) (rs : List (List ℕ)) (k : ℕ) (r : List ℕ) → slice_get (fitting room rs) k ≡ Some r → slice_get rs k ≡ Some r
 unfolding fitting
 fitting-at room [] k r e = e
 fitting-at room (x ∷ rs) k r e = go (leb (length x) room) k (λ j h. fitting-at (room - length x) rs j r h) e
   where
-    go : (t : Bool) (j : ℕ) → ((m : ℕ) → get_elem? (fitting (room - length x) rs) m ≡ some r → get_elem? rs m ≡ some r)
-        → get_elem? (cond t (x ∷ fitting (room - length x) rs) []) j ≡ some r → get_elem? (x ∷ rs) j ≡ some r
+    go : (t : Bool) (j : ℕ) → ((m : ℕ) → slice_get (fitting (room - length x) rs) m ≡ Some r → slice_get rs m ≡ Some r)
+        → slice_get (cond t (x ∷ fitting (room - length x) rs) []) j ≡ Some r → slice_get (x ∷ rs) j ≡ Some r
     go true zero ih h = h
     go true (suc j) ih h = ih j h
     go false j ih h = absurd (let z : ◌≡◌ {A = ℕ} 0 1 = cc in omega arith)
@@ -64,7 +64,7 @@ pub record Answered (limit : ℕ) (rows : ℕ → Sheet → List (List ℕ)) (t 
   pub size : sized t b ≡ Got bars
   pub room : leb limit (length out) ≡ true
   pub check : checked t bars b ≡ Got sheet
-  pub there : row_at (rows bars sheet) i ≡ some first
+  pub there : row_at (rows bars sheet) i ≡ Some first
   pub is : block ≡ fitting (length out) (rows_from (rows bars sheet) i)
 
 answered : (limit : ℕ) (rows : ℕ → Sheet → List (List ℕ)) (t b : List ℕ) (i : ℤ) (out : List ℕ) (block : List (List ℕ)) → block_do limit rows t b i out ≡ Got block
@@ -92,23 +92,23 @@ module _ {limit : ℕ} {rows : ℕ → Sheet → List (List ℕ)} {t b : List �
   all = rows a.bars a.sheet
 
   -- row number k of the block is row number i + k of the book
-  row_is : (k : ℕ) (r : List ℕ) → get_elem? block k ≡ some r → row_at all (i +ℤ pos k) ≡ some r
-  row_is k r e = go i a.there (fitting-at (length out) (rows_from all i) k r (ap (λ (q : List (List ℕ)). get_elem? q k) (sym a.is) ∙ e))
+  row_is : (k : ℕ) (r : List ℕ) → slice_get block k ≡ Some r → row_at all (i +ℤ pos k) ≡ Some r
+  row_is k r e = go i a.there (fitting-at (length out) (rows_from all i) k r (ap (λ (q : List (List ℕ)). slice_get q k) (sym a.is) ∙ e))
     where
-      go : (z : ℤ) → row_at all z ≡ some a.first → get_elem? (rows_from all z) k ≡ some r → row_at all (z +ℤ pos k) ≡ some r
+      go : (z : ℤ) → row_at all z ≡ Some a.first → slice_get (rows_from all z) k ≡ Some r → row_at all (z +ℤ pos k) ≡ Some r
       go (pos n) f h = sym (at_drop all n k) ∙ h
       go (negsuc n) f h = absurd (let z : ◌≡◌ {A = ℕ} 0 1 = cc in omega arith)
 
   pub row_some : length a.first ≤ length out → 1 ≤ length block
   row_some h = rw a.is (go i a.there)
     where
-      first-is : (xs : List (List ℕ)) → get_elem? xs 0 ≡ some a.first → 1 ≤ length (fitting (length out) xs)
+      first-is : (xs : List (List ℕ)) → slice_get xs 0 ≡ Some a.first → 1 ≤ length (fitting (length out) xs)
       first-is [] e = absurd (let z : ◌≡◌ {A = ℕ} 0 1 = cc in omega arith)
       first-is (x ∷ xs) e =
           let f : x ≡ a.first = cc in
           fitting_some (length out) x xs (rw f h)
 
-      go : (z : ℤ) → row_at all z ≡ some a.first → 1 ≤ length (fitting (length out) (rows_from all z))
+      go : (z : ℤ) → row_at all z ≡ Some a.first → 1 ≤ length (fitting (length out) (rows_from all z))
       go (pos n) e =
           let f : n + 0 ≡ n = omega arith in
           first-is (drop n all) (at_drop all n 0 ∙ rw f e)
@@ -121,7 +121,7 @@ unfolding hold_row_bytes le_bytes
 hold_long o = rw (yield-length o.n1b)
 
 -- the row behind a row's bytes
-pub row_of_lem : {X : Type 0} (f : X → List ℕ) (xs : List X) (z : ℤ) (r : List ℕ) → row_at (map f xs) z ≡ some r → (x : X) × (row_at xs z ≡ some x) × (f x ≡ r)
+pub row_of_lem : {X : Type 0} (f : X → List ℕ) (xs : List X) (z : ℤ) (r : List ℕ) → row_at (map f xs) z ≡ Some r → (x : X) × (row_at xs z ≡ Some x) × (f x ≡ r)
 row_of_lem f xs (pos n) r e = at_map f xs n r e
 row_of_lem f xs (negsuc n) r e = absurd (let z : ◌≡◌ {A = ℕ} 0 1 = cc in omega arith)
 
@@ -130,7 +130,7 @@ module _ (t b : List ℕ) (i : ℤ) (out : List ℕ) (block : List (List ℕ)) (
   held = answered hold_row_length (λ c s. hold_block b) t b i out block e
 
   -- hold row number k of a block that starts with number i is row number i + k
-  pub hold_single : (k : ℕ) (r : List ℕ) → get_elem? block k ≡ some r → (o : HoldRow) × (hold_do t b (i +ℤ pos k) ≡ Got o) × (hold_row_bytes o ≡ r)
+  pub hold_single : (k : ℕ) (r : List ℕ) → slice_get block k ≡ Some r → (o : HoldRow) × (hold_do t b (i +ℤ pos k) ≡ Got o) × (hold_row_bytes o ≡ r)
   unfolding hold_do
   hold_single k r h =
       let row = row_of_lem hold_row_bytes (hold_rows (holds_of b)) (i +ℤ pos k) r (row_is held k r h) in
@@ -153,7 +153,7 @@ module _ (t b : List ℕ) (i : ℤ) (out : List ℕ) (block : List (List ℕ)) (
   traded = answered pair_row_limit (λ c s. pair_block s c b) t b i out block e
 
   -- pair row number k of a block that starts with number i is row number i + k, with its texts behind its numbers
-  pub pair_single : (buffer : List ℕ) → row_buffer ≤ length buffer → (k : ℕ) (r : List ℕ) → get_elem? block k ≡ some r
+  pub pair_single : (buffer : List ℕ) → row_buffer ≤ length buffer → (k : ℕ) (r : List ℕ) → slice_get block k ≡ Some r
       → (p : Pair) × (pair_do t b (i +ℤ pos k) buffer ≡ Got p) × (pair_row_bytes p ≡ r)
   unfolding pair_do
   pair_single buffer l k r h =

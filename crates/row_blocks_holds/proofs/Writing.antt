@@ -1,6 +1,7 @@
 -- The walk over the holds: their rows are written one behind another while they fit. Assumes nothing.
-use Prim.Native.Nat.{ℕ, ◌+◌, ◌-◌, ◌<◌, ◌≤◌}
+use Prim.Native.Nat.{ℕ, min, ◌/◌, ◌*◌, ◌+◌, ◌-◌, ◌<◌, ◌≤◌}
 use native.Mathlib.Omega.{arith}
+use native.Mathlib.Decide.{dec_le}
 use mathlib.Core.Path.{◌≡◌, refl}
 use mathlib.Core.List.{List}
 use lib.ListN.{length, drop}
@@ -16,34 +17,37 @@ use Rattle.row_blocks.proofs.Filling.{Filling, filling_none, filling_next, filli
 use Rattle.row_blocks_holds.specs.Row.{row_at}
 use Rattle.row_blocks_holds.proofs.Row.{row_next, row-none}
 
--- the rows of the holds from number k up to i are written, up to `at`
-pub record Writing (b : List ℕ) (k : ℕ) (before after : List ℕ) (i at : ℕ) : Type 0 where
-  pub begun : k ≤ i
-  pub fit : at ≤ length before
+-- so many rows of the holds from number k on are written
+pub record Writing (b : List ℕ) (k : ℕ) (before after : List ℕ) (i : ℕ) : Type 0 where
+  pub fit : 32 * i ≤ length before
   pub kept : length after ≡ length before
-  pub rows : Filling (drop k (hold_block b)) before after (drop i (hold_block b)) (i - k) at
+  pub rows : Filling (drop k (hold_block b)) before after (drop (k + i) (hold_block b)) i (32 * i)
 
-pub writing_none : (b : List ℕ) (k : ℕ) (before : List ℕ) → Writing b k before before k 0
+pub writing_none : (b : List ℕ) (k : ℕ) (before : List ℕ) → Writing b k before before 0
 writing_none b k before =
-    let none : k - k ≡ 0 = omega arith in
-    record { begun = omega arith; fit = omega arith; kept = refl; rows = rw none (filling_none (drop k (hold_block b)) before) }
+    let first : k + 0 ≡ k = omega arith in
+    record { fit = omega arith; kept = refl; rows = rw first (filling_none (drop k (hold_block b)) before) }
 
-module _ {b : List ℕ} {k : ℕ} {before after : List ℕ} {i at : ℕ} (w : Writing b k before after i at) where
-  pub writing_last : u32 b 0 ≤ i → Filled (drop k (hold_block b)) before after (record { rows = i - k; length = at })
-  writing_last h = filling_last (rw (row-none b i h) at w.rows)
+module _ {b : List ℕ} {k : ℕ} {before after : List ℕ} {i : ℕ} (w : Writing b k before after i) where
+  pub writing_last : u32 b 0 ≤ k + i → Filled (drop k (hold_block b)) before after (record { rows = i; length = 32 * i })
+  writing_last h = filling_last (rw (row-none b (k + i) h) at w.rows)
 
-  module _ (h : i < u32 b 0) where
-    pub writing_next : {later : List ℕ} → Put after later at (row_at b i) (at + 32) → Writing b k before later (i + 1) (at + 32)
+  module _ (h : k + i < u32 b 0) where
+    pub writing_next : {later : List ℕ} → Put after later (32 * i) (row_at b (k + i)) (32 * i + 32) → Writing b k before later (i + 1)
     writing_next p =
-        let one : i + 1 - k ≡ i - k + 1 = omega (arith, w.begun) in
+        let next : k + i + 1 ≡ k + (i + 1) = omega arith in
+        let end : 32 * i + 32 ≡ 32 * (i + 1) = omega arith in
         record {
-          begun = omega (arith, w.begun);
           fit = omega (arith, p.fit, w.kept);
           kept = omega (arith, p.kept, w.kept);
-          rows = rw one (filling_next (rw (row_next b i h) at w.rows) p);
+          rows = rw (← next, ← end) (filling_next (rw (row_next b (k + i) h) at w.rows) p);
         }
 
-    pub writing_full : length after - at < 32 → Filled (drop k (hold_block b)) before after (record { rows = i - k; length = at })
+    pub writing_full : length after - 32 * i < 32 → Filled (drop k (hold_block b)) before after (record { rows = i; length = 32 * i })
     writing_full f =
-        filling_full (rw (row_next b i h) at w.rows)
-        (omega (arith, f, w.kept, hold_long (hold_row (hold_of (part b (hold_place i) 32)))))
+        filling_full (rw (row_next b (k + i) h) at w.rows)
+        (omega (arith, f, w.kept, hold_long (hold_row (hold_of (part b (hold_place (k + i)) 32)))))
+
+  -- as many as there are, or as fit
+  pub writing_end : i ≡ min (u32 b 0 - k) (length before / 32) → k ≤ u32 b 0 → Filled (drop k (hold_block b)) before after (record { rows = i; length = 32 * i })
+  writing_end e l = elim (dec_le (u32 b 0) (k + i)) [ yes h ↦ writing_last h | no h ↦ writing_full (omega arith) (omega (arith, w.kept)) ]

@@ -10,15 +10,15 @@ ghost use Rattle.row_blocks.specs.Blocks.{hold_row_bytes, hold_row_length, block
 ghost use Rattle.row_blocks.specs.Read.{Filled, BlockAs};
 ghost use Rattle.row_blocks_holds.specs.Row.{row_at, RowNumbers};
 
-use book::{ENTRY_LENGTH, HEAD_LENGTH};
-use book_check::{Checked, check_book};
+use book::{ENTRY_LENGTH, HEAD_LENGTH, OpenError};
 use book_entry::{hold_at, put_yield};
-use book_header::{Sized, size_of};
 use double::Yield;
 use le::{get_u32, put_f64, put_i32, put_i64, put_u32};
 use position::HoldRow;
-use row_blocks::{Block, BlockRead};
+use row::{RowError, index_of};
+use row_blocks::Block;
 use row_holds::row_of;
+use row_open::open_checked;
 
 // The length of a hold row.
 pub const HOLD_ROW: usize = 32;
@@ -39,13 +39,11 @@ fn put_row(out: &mut [u8], at: usize, o: HoldRow)
     requires row_numbers { RowNumbers o }
     ensures { Put out.old out.new at (hold_row_bytes o) (at + hold_row_length) }
 {
-    let local = o.local;
-    let n1b = o.n1b;
-    put_i64(out, at, local.micros());
+    put_i64(out, at, o.local.micros());
     put_i32(out, at + 8, o.pos);
-    put_u32(out, at + 12, present(n1b));
+    put_u32(out, at + 12, present(o.n1b));
     put_f64(out, at + 16, o.price);
-    put_yield(out, at + 24, n1b);
+    put_yield(out, at + 24, o.n1b);
 }
 
 // Writes the row of hold number i from `at` on.
@@ -62,57 +60,40 @@ fn put_hold(b: &[u8], i: usize, out: &mut [u8], at: usize)
 
 // Writes the rows of the holds from number k on that fit.
 fn put_rows(b: &[u8], k: usize, out: &mut [u8]) -> Block
-    requires { Held b.now }
+    requires held { Held b.now }
+    requires k_bound { k ≤ u32 b.now 0 }
     ensures { Filled (drop k (hold_block b.now)) out.old out.new result }
 {
-    let n = get_u32(b, 0) as usize;
-    let mut i = k;
-    let mut at: usize = 0;
-    while i < n {
-        if out.len() - at < HOLD_ROW {
-            return Block {
-                rows: i - k,
-                length: at,
-            };
-        }
-        put_hold(b, i, out, at);
-        at += HOLD_ROW;
-        i += 1;
+    let left = get_u32(b, 0) as usize - k;
+    let rows = left.min(out.len() / HOLD_ROW);
+    for i in 0..rows {
+        put_hold(b, k + i, out, HOLD_ROW * i);
     }
     Block {
-        rows: i - k,
-        length: at,
+        rows,
+        length: HOLD_ROW * rows,
     }
 }
 
 // The block from row number i on, of a book that passed the full check.
-fn rows_from(b: &[u8], i: i64, out: &mut [u8]) -> BlockRead
+fn rows_from(b: &[u8], i: i64, out: &mut [u8]) -> Result<Block, RowError>
     requires { Held b.now }
     ensures { BlockAs (block_from (hold_block b.now) i (length out.old)) out.old out.new result }
 {
-    if i < 0 {
-        return BlockRead::PastLast;
-    }
-    let k = i as usize;
+    let k = index_of(i)?;
     if get_u32(b, 0) as usize <= k {
-        return BlockRead::PastLast;
+        return Err(RowError::PastLast);
     }
-    BlockRead::Rows(put_rows(b, k, out))
+    Ok(put_rows(b, k, out))
 }
 
 // Writes the hold rows of a book from number i on, one after another, to the start of the buffer: as many as fit.
-pub fn hold_rows(table: &[u8], b: &[u8], i: i64, out: &mut [u8]) -> BlockRead
+pub fn hold_rows(table: &[u8], b: &[u8], i: i64, out: &mut [u8]) -> Result<Block, RowError>
     ensures { BlockAs (hold_block_do table.now b.now i out.old) out.old out.new result }
 {
-    let Sized::Bars(c) = size_of(table, b) else {
-        return BlockRead::WrongLength;
-    };
     if out.len() < HOLD_ROW {
-        return BlockRead::WrongLength;
+        return Err(RowError::Open(OpenError::WrongLength));
     }
-    match check_book(table, b, c) {
-        Checked::NotTable => BlockRead::NotTable,
-        Checked::NotBook => BlockRead::NotBook,
-        Checked::Passed => rows_from(b, i, out),
-    }
+    open_checked(table, b)?;
+    rows_from(b, i, out)
 }

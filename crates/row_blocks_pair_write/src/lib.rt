@@ -33,14 +33,10 @@ fn put_trade(out: &mut [u8], at: usize, p: PairRow)
     requires row_numbers { RowNumbers p }
     ensures { Put out.old out.new at (trade_bytes p) (at + 40) }
 {
-    let side = p.side;
-    let bp = p.bp;
-    let opened = p.opened;
-    let closed = p.closed;
-    put_i32(out, at, side_sign(side));
-    put_u32(out, at + 4, present(bp));
-    put_i64(out, at + 8, opened.micros());
-    put_i64(out, at + 16, closed.micros());
+    put_i32(out, at, side_sign(p.side));
+    put_u32(out, at + 4, present(p.bp));
+    put_i64(out, at + 8, p.opened.micros());
+    put_i64(out, at + 16, p.closed.micros());
     put_f64(out, at + 24, p.from);
     put_f64(out, at + 32, p.to);
 }
@@ -51,15 +47,13 @@ fn put_figures(out: &mut [u8], at: usize, p: PairRow)
     requires row_numbers { RowNumbers p }
     ensures { Put out.old out.new at (figure_bytes p) (at + 56) }
 {
-    let bp = p.bp;
-    let lots = p.lots as u64;
     put_i64(out, at, p.ids);
     put_f64(out, at + 8, p.days);
-    put_yield(out, at + 16, bp);
+    put_yield(out, at + 16, p.bp);
     put_u64(out, at + 24, p.symbol as u64);
     put_u64(out, at + 32, p.mark as u64);
     put_u64(out, at + 40, p.sequence as u64);
-    put_u64(out, at + 48, lots);
+    put_u64(out, at + 48, p.lots as u64);
 }
 
 // Writes a row whose n bytes of texts are at the start of the buffer, and answers the place behind it.

@@ -4,11 +4,11 @@ use Prim.Native.Nat.{ℕ, zero, suc, ◌+◌, ◌*◌, ◌^◌, ◌<◌, ◌≤�
 use native.Mathlib.Omega.{arith}
 use mathlib.Core.Bool.{Bool, true, false, cond}
 use mathlib.Core.List.{List, [], ◌∷◌, ◌++◌, map}
-use mathlib.Core.Option.{some}
+use Rattle.std.specs.Prelude.{Some, slice_get}
 use mathlib.Core.Path.{◌≡◌, refl, ap, subst}
 use borrow.Author.Tests.{leb-true}
 use lib.IntN.{ℤ, pos, negsuc}
-use lib.ListN.{length, get_elem?, drop, length-append, length-take}
+use lib.ListN.{length, drop, length-append, length-take}
 use Rattle.le.specs.Le.{part}
 use Rattle.text.specs.Answer.{Got}
 use Rattle.text.specs.Conditions.{every}
@@ -48,7 +48,7 @@ record Short (s : Sheet) : Type 0 where
   event : (i : ℕ) → length (event_name s i) ≤ name_limit
 
 event_short : (names : List ℕ) (cs : List Clause) (es : List EventRow) → every (event_ok names) es ≡ true → (i : ℕ)
-    → length (name_in (get_elem? (map (event_of names cs) es) i)) ≤ name_limit
+    → length (name_in (slice_get (map (event_of names cs) es) i)) ≤ name_limit
 unfolding event_of event_text event_ok part
 event_short names cs [] h i = omega arith
 event_short names cs (e ∷ es) h zero =
@@ -97,21 +97,21 @@ unfolding pair_of bytes encoded
 pair_short {s} h a z =
     simp length-append (omega (arith, h.name, h.symbol, part-short h a, part-short h z))
 
-pairs_short : {s : Sheet} → Short s → (rs : List Record) (i : ℕ) (p : Pair) → get_elem? (pairs_of s rs) i ≡ some p → length (pair_text p) ≤ row_buffer
+pairs_short : {s : Sheet} → Short s → (rs : List Record) (i : ℕ) (p : Pair) → slice_get (pairs_of s rs) i ≡ Some p → length (pair_text p) ≤ row_buffer
 unfolding pairs_of
 pairs_short h [] i p e = absurd (let z : ◌≡◌ {A = ℕ} 0 1 = cc in omega arith)
 pairs_short h (a ∷ []) i p e = absurd (let z : ◌≡◌ {A = ℕ} 0 1 = cc in omega arith)
 pairs_short {s} h (a ∷ z ∷ rs) i p e = go (opens a) i (λ j f. pairs_short h (z ∷ rs) j p f) e
   where
-    go : (t : Bool) (j : ℕ) → ((k : ℕ) → get_elem? (pairs_of s (z ∷ rs)) k ≡ some p → length (pair_text p) ≤ row_buffer)
-        → get_elem? (cond t (pair_of s a z ∷ pairs_of s (z ∷ rs)) (pairs_of s (z ∷ rs))) j ≡ some p → length (pair_text p) ≤ row_buffer
+    go : (t : Bool) (j : ℕ) → ((k : ℕ) → slice_get (pairs_of s (z ∷ rs)) k ≡ Some p → length (pair_text p) ≤ row_buffer)
+        → slice_get (cond t (pair_of s a z ∷ pairs_of s (z ∷ rs)) (pairs_of s (z ∷ rs))) j ≡ Some p → length (pair_text p) ≤ row_buffer
     go true zero ih f =
         let is : pair_of s a z ≡ p = cc in
         subst (λ (q : Pair). length (pair_text q) ≤ row_buffer) is (pair_short h a z)
     go true (suc j) ih f = ih j f
     go false j ih f = ih j f
 
-row-short : {s : Sheet} → Short s → (rs : List Record) (i : ℤ) (p : Pair) → row_at (pairs_of s rs) i ≡ some p → length (pair_text p) ≤ row_buffer
+row-short : {s : Sheet} → Short s → (rs : List Record) (i : ℤ) (p : Pair) → row_at (pairs_of s rs) i ≡ Some p → length (pair_text p) ≤ row_buffer
 row-short h rs (pos n) p e = pairs_short h rs n p e
 row-short h rs (negsuc n) p e = absurd (let z : ◌≡◌ {A = ℕ} 0 1 = cc in omega arith)
 

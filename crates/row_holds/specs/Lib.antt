@@ -1,3 +1,2 @@
 -- The definitions that the contracts of `row_holds` cite.
-pub mod Read
 pub mod Held

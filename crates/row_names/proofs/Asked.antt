@@ -5,17 +5,16 @@ use mathlib.Core.Path.{◌≡◌, ◌∙◌, refl, sym, ap}
 use mathlib.Core.Logic.{◌≢◌}
 use mathlib.Core.Bool.{true, false}
 use mathlib.Core.List.{List, [], ◌∷◌, map}
-use mathlib.Core.Option.{some}
+use Rattle.row.specs.Read.{row_refusal}
+use Rattle.row.specs.declared.RowError.{RowError}
+use Rattle.book.specs.declared.OpenError.TheVariants as OpenError
+use Rattle.std.specs.Prelude.{Option, None, Some, Ok, Err, slice_get}
 use borrow.Author.Tests.{eq-eqb, ne_eqb, le-leb, lt-leb}
-use lib.IntN.{ℤ, pos, nat_abs}
-use lib.Signed.{lt_z}
-use lib.ListN.{length, get_elem?, length-map}
+use lib.IntN.{ℤ}
+use lib.ListN.{length, length-map}
 use lib.Seq.{slice}
-use mir.Syntax.{w64}
-use mir.Val.{SFits}
-use Rattle.le.proofs.Signs.{back}
 use Rattle.list.proofs.Elements.{none-at}
-use Rattle.text.specs.Answer.{Refused, Got, given}
+use Rattle.text.specs.Answer.{Refused, Got, ◌>>=◌, given}
 use Rattle.text.specs.Read.{Put}
 use Rattle.text.proofs.Put.{put_whole}
 use Rattle.sheet.specs.Sheet.{Event, name_limit}
@@ -24,58 +23,55 @@ use Rattle.table.specs.Table.{is_table, sheet_of, read_table}
 use Rattle.table.proofs.Facts.{events-count}
 use Rattle.position.specs.Rows.{name_in, event_name}
 use Rattle.row.specs.Calls.{row_at, event_name_do}
-use Rattle.row.proofs.Index.{index_below, index_is}
-use Rattle.row_names.specs.Read.{name_read_of, NameAs}
-use Rattle.row_names.specs.declared.NameRead.{NameRead}
-use Rattle.row_names.specs.declared.NameRead.TheVariants.{Length, WrongLength, NotTable, PastLast}
+use Rattle.row_names.specs.Read.{NameAs}
 
 -- ---- the names of a list of events
 
-name-at : (es : List Event) (k : ℕ) → k < length es → get_elem? (map (λ e. e.name) es) k ≡ some (name_in (get_elem? es k))
+name-at : (es : List Event) (k : ℕ) → k < length es → slice_get (map (λ e. e.name) es) k ≡ Some (name_in (slice_get es k))
 name-at [] k h = absurd (omega arith)
 name-at (e ∷ es) zero h = refl
 name-at (e ∷ es) (suc k) h = name-at es k (omega arith)
+
+-- the names of the events of a table
+abbrev names_of : List ℕ → List (List ℕ)
+names_of t = map (λ e. e.name) (sheet_of (parts_in t)).events
 
 -- ---- the request
 
 module _ (t : List ℕ) (i : ℤ) (b : List ℕ) where
   -- a refusal leaves the buffer
-  refused : (n : ℕ) {r : NameRead} → name_read_of r ≡ Refused n → event_name_do t i b ≡ Refused n → NameAs t i b b r
-  refused n e f = record { is = rw f e; bytes = rw f }
+  refused : (e : RowError) → event_name_do t i b ≡ Refused (row_refusal e) → NameAs t i b b (Err e)
+  refused e f = record { is = sym (ap (λ x. x >>= λ name. Got (length name)) f); bytes = rw f }
 
-  pub other_length : length t ≢ table_length → NameAs t i b b WrongLength
+  pub other_length : length t ≢ table_length → NameAs t i b b (Err (RowError.Open OpenError.WrongLength))
   unfolding event_name_do
-  other_length h = refused 8 refl (rw (ne_eqb (length t) table_length h))
+  other_length h = refused _ (rw (ne_eqb (length t) table_length h))
 
   module _ (z : length t ≡ table_length) where
-    pub short_buffer : length b < name_limit → NameAs t i b b WrongLength
+    pub short_buffer : length b < name_limit → NameAs t i b b (Err (RowError.Open OpenError.WrongLength))
     unfolding event_name_do
-    short_buffer h = refused 8 refl (rw (eq-eqb (length t) table_length z, lt-leb name_limit (length b) h))
+    short_buffer h = refused _ (rw (eq-eqb (length t) table_length z, lt-leb name_limit (length b) h))
 
-    module _ (k : name_limit ≤ length b) where
-      pub not_table : is_table t ≡ false → NameAs t i b b NotTable
+    module _ (h : name_limit ≤ length b) where
+      pub not_table : is_table t ≡ false → NameAs t i b b (Err (RowError.Open OpenError.NotTable))
       unfolding event_name_do read_table
-      not_table e = refused 9 refl (rw (eq-eqb (length t) table_length z, le-leb name_limit (length b) k, e))
+      not_table e = refused _ (rw (eq-eqb (length t) table_length z, le-leb name_limit (length b) h, e))
 
-      module _ (ok : is_table t ≡ true) (F : SFits w64 i) where
-        asked : event_name_do t i b ≡ given 15 (row_at (map (λ e. e.name) (sheet_of (parts_in t)).events) i)
+      module _ (ok : is_table t ≡ true) where
+        asked : {o : Option (List ℕ)} → row_at (names_of t) i ≡ o → event_name_do t i b ≡ given 15 o
         unfolding event_name_do read_table
-        asked = rw (eq-eqb (length t) table_length z, le-leb name_limit (length b) k, ok)
+        asked e = rw (eq-eqb (length t) table_length z, le-leb name_limit (length b) h, ok) (ap (given 15) e)
 
-        pub below-first : lt_z (back w64 i) (pos 0) ≡ true → NameAs t i b b PastLast
-        below-first s = refused 15 refl (asked ∙ ap (given 15) (index_below _ i F s))
+        pub no_row : {e : RowError} → (e ≡ RowError.PastLast) × (row_at (names_of t) i ≡ None) → NameAs t i b b (Err e)
+        no_row n = rw n.0 (refused RowError.PastLast (asked n.1))
 
-        module _ (s : lt_z (back w64 i) (pos 0) ≡ false) where
-          row : event_name_do t i b ≡ given 15 (get_elem? (map (λ e. e.name) (sheet_of (parts_in t)).events) (nat_abs (back w64 i)))
-          row = asked ∙ ap (given 15) (index_is _ i F s)
-
-          pub past-last : (counts_in t).events ≤ nat_abs (back w64 i) → NameAs t i b b PastLast
-          past-last h = refused 15 refl (row ∙ ap (given 15) (none-at (map (λ e. e.name) (sheet_of (parts_in t)).events) (nat_abs (back w64 i)) (omega (arith, length-map (sheet_of (parts_in t)).events (λ e. e.name), events-count t))))
+        module _ {k : ℕ} (row : row_at (names_of t) i ≡ slice_get (names_of t) k) where
+          pub past-last : (counts_in t).events ≤ k → NameAs t i b b (Err RowError.PastLast)
+          past-last l = no_row (refl, row ∙ none-at (names_of t) k (omega (arith, length-map (sheet_of (parts_in t)).events (λ e. e.name), events-count t)))
 
           -- the whole of a text that is the name is written
-          pub name-put : {x m : List ℕ} {r : ℕ} → nat_abs (back w64 i) < (counts_in t).events → x ≡ event_name (sheet_of (parts_in t)) (nat_abs (back w64 i)) → Put b m 0 (slice 0 (length x) x) r
-              → NameAs t i b m (Length r)
-          name-put {x} {m} {r} h q p =
-              let e : event_name_do t i b ≡ Got x = row ∙ ap (given 15) (name-at (sheet_of (parts_in t)).events (nat_abs (back w64 i)) (omega (arith, events-count t)) ∙ ap some (sym q)) in
+          pub name-put : {x m : List ℕ} {r : ℕ} → k < (counts_in t).events → x ≡ event_name (sheet_of (parts_in t)) k → Put b m 0 (slice 0 (length x) x) r → NameAs t i b m (Ok r)
+          name-put {x} {m} {r} l q p =
+              let e : event_name_do t i b ≡ Got x = asked (row ∙ name-at (sheet_of (parts_in t)).events k (omega (arith, events-count t)) ∙ ap Some (sym q)) in
               let w : Put b m 0 x r = put_whole x p in
               record { is = rw e (ap Got (omega (arith, w.end))); bytes = rw e w.written }

@@ -2,40 +2,18 @@
 #![tactic(auto)]
 
 ghost use Rattle.std.specs.Prelude.{◌≡◌, true, ◌<◌, ◌≤◌, length};
-ghost use Rattle.text.specs.Answer.{number};
 ghost use Rattle.sheet.specs.Sheet.{name_limit};
 ghost use Rattle.table.specs.Layout.{counts_in, parts_in};
 ghost use Rattle.table.specs.Table.{is_table, sheet_of};
 ghost use Rattle.position.specs.Rows.{event_name};
-ghost use Rattle.row_names.specs.Read.{name_read_of, NameAs};
+ghost use Rattle.row_names.specs.Read.{NameAs};
 
+use book::OpenError;
+use row::{RowError, index_of};
 use sheet::NAME_LIMIT;
 use table::{TABLE_LENGTH, event_at, read_counts, read_places};
 use table_check::is_table;
 use text::put_part;
-
-// What a request for an event's name answers: its length, or why it is refused.
-#[derive(Clone, Copy)]
-pub enum NameRead {
-    Length(usize),
-    WrongLength,
-    NotTable,
-    PastLast,
-}
-
-impl NameRead {
-    // The number of the answer.
-    pub fn number(self) -> u32
-        ensures { result ≡ number (name_read_of self) }
-    {
-        match self {
-            NameRead::Length(_) => 0,
-            NameRead::WrongLength => 8,
-            NameRead::NotTable => 9,
-            NameRead::PastLast => 15,
-        }
-    }
-}
 
 // The position's name.
 pub fn name_text(t: &[u8]) -> &[u8]
@@ -77,27 +55,19 @@ pub fn event_text(t: &[u8], i: usize) -> &[u8]
 }
 
 // Writes the name of event number i of a table to the start of the buffer.
-pub fn event_name(table: &[u8], i: i64, buffer: &mut [u8]) -> NameRead
+pub fn event_name(table: &[u8], i: i64, buffer: &mut [u8]) -> Result<usize, RowError>
     ensures { NameAs table.now i buffer.old buffer.new result }
 {
-    if table.len() != TABLE_LENGTH {
-        return NameRead::WrongLength;
-    }
-    if buffer.len() < NAME_LIMIT {
-        return NameRead::WrongLength;
+    if table.len() != TABLE_LENGTH || buffer.len() < NAME_LIMIT {
+        return Err(RowError::Open(OpenError::WrongLength));
     }
     if !is_table(table) {
-        return NameRead::NotTable;
+        return Err(RowError::Open(OpenError::NotTable));
     }
-    if i < 0 {
-        return NameRead::PastLast;
-    }
-    let k = i as usize;
-    let c = read_counts(table);
-    if c.events as usize <= k {
-        return NameRead::PastLast;
+    let k = index_of(i)?;
+    if read_counts(table).events as usize <= k {
+        return Err(RowError::PastLast);
     }
     let name = event_text(table, k);
-    let n = name.len();
-    NameRead::Length(put_part(buffer, 0, name, 0, n))
+    Ok(put_part(buffer, 0, name, 0, name.len()))
 }

@@ -2,23 +2,20 @@
 use Prim.Native.Nat.{ℕ, zero, suc, ◌+◌, ◌-◌, ◌*◌, ◌<◌, ◌≤◌}
 use native.Mathlib.Omega.{arith}
 use mathlib.Core.Path.{◌≡◌, ◌∙◌, refl, sym, ap}
-use mathlib.Core.Bool.{Bool, true, false, ◌||◌}
+use mathlib.Core.Bool.{true, false}
 use mathlib.Core.List.{List, [], ◌∷◌}
-use mathlib.Core.Option.{none, some}
-use lib.Dec.{eqb}
-use lib.ListN.{length, get_or, get_elem?, drop, length-map, length-drop, drop_of_length-le, get_or-map}
+use Rattle.std.specs.Prelude.{None, Some, slice_get}
+use lib.ListN.{length, get_or, drop, length-map, length-drop, drop_of_length-le, get_or-map}
 use lib.Seq.{drop-cons, get_or-take, get_or-drop}
 use Rattle.le.specs.Le.{part}
 use Rattle.le.specs.Field.{u8, u32}
 use Rattle.list.proofs.Elements.{next-at}
-use Rattle.operate.specs.Operate.{LO, SO}
 use Rattle.sheet.specs.Sheet.{Sheet}
 use Rattle.position.specs.Rows.{pair_of, pairs_of, opens}
 use Rattle.position.specs.declared.Record.{Record}
 use Rattle.book.specs.Layout.{record_place, record_of, record_slots, records_of}
 use Rattle.book.proofs.Slots.{slots_length, slots_at}
 use Rattle.row_pairs.specs.Found.{record_at, pair_from, FoundAs}
-use Rattle.row_pairs.specs.declared.FoundPair.TheVariants.{At, Nowhere}
 
 -- ---- the records of a book
 
@@ -43,7 +40,7 @@ module _ (c : ℕ) (b : List ℕ) where
       ∙ ap (λ (k : ℕ). record_at c b j ∷ drop k (records_of c b)) e
 
   -- the operate of a record, by its byte
-  operate-at : (j : ℕ) → (record_at c b j).operate ≡ u8 b (record_place c j + 24)
+  pub operate-at : (j : ℕ) → (record_at c b j).operate ≡ u8 b (record_place c j + 24)
   unfolding record_of part
   operate-at j =
       let h : 24 < 32 = omega arith in
@@ -67,82 +64,70 @@ module _ (s : Sheet) where
   pairs_none (a ∷ z ∷ rs) h = absurd (omega arith)
 
 -- nothing is left of a list from its end on
-none_left : {X : Type 0} (xs : List X) (i : ℕ) → drop i xs ≡ [] → get_elem? xs i ≡ none
+none_left : {X : Type 0} (xs : List X) (i : ℕ) → drop i xs ≡ [] → slice_get xs i ≡ None
 none_left [] i e = refl
 none_left (x ∷ xs) zero e = cc
 none_left (x ∷ xs) (suc i) e = none_left xs i e
 
--- ---- the loop: before record number j, whose operate is at `at`, the pairs from number i on are those from number `left` on of what is left
+-- ---- the loop: before record number j, the pairs from number i on are those from number `left` on of what is left
 
-pub record Seeking (c : ℕ) (b : List ℕ) (from i at left j : ℕ) : Type 0 where
-  pub begun : from ≤ j
+pub record Seeking (c : ℕ) (b : List ℕ) (i left j : ℕ) : Type 0 where
   pub le : j ≤ u32 b 4
-  pub here : at ≡ record_place c j + 24
-  pub still : (s : Sheet) → drop i (pairs_of s (drop from (records_of c b))) ≡ drop left (pairs_of s (drop j (records_of c b)))
+  pub still : (s : Sheet) → drop i (pairs_of s (records_of c b)) ≡ drop left (pairs_of s (drop j (records_of c b)))
 
-pub seeking_first : (c : ℕ) (b : List ℕ) (from i : ℕ) → from ≤ u32 b 4 → Seeking c b from i (96 + 32 * c + 32 * from + 24) i from
-seeking_first c b from i h = record { begun = omega arith; le = h; here = omega arith; still = λ s. refl }
+-- the pairs of the records from number j on
+module _ (c : ℕ) (b : List ℕ) (j : ℕ) where
+  pub pairs-last : u32 b 4 ≤ j + 1 → (s : Sheet) → pairs_of s (drop j (records_of c b)) ≡ []
+  pairs-last h s = pairs_none s (drop j (records_of c b)) (omega (arith, length-drop j (records_of c b), records-length c b))
 
-module _ {c : ℕ} {b : List ℕ} {from i at left j : ℕ} (r : Seeking c b from i at left j) where
-  pub seeking_last : u32 b 4 ≤ j + 1 → FoundAs c b from i Nowhere
+  module _ (more : j + 1 < u32 b 4) where
+    rest : drop (j + 1) (records_of c b) ≡ record_at c b (j + 1) ∷ drop (j + 1 + 1) (records_of c b)
+    rest = record_next c b (j + 1) more
+
+    both : drop j (records_of c b) ≡ record_at c b j ∷ record_at c b (j + 1) ∷ drop (j + 1 + 1) (records_of c b)
+    both = record_next c b j (omega arith) ∙ ap (λ rs. record_at c b j ∷ rs) rest
+
+    pub pairs-opened : true ≡ opens (record_at c b j) → (s : Sheet) → pairs_of s (drop j (records_of c b)) ≡ pair_from s c b j ∷ pairs_of s (drop (j + 1) (records_of c b))
+    pairs-opened e s =
+        ap (pairs_of s) both ∙ pairs_first s (record_at c b j) (record_at c b (j + 1)) (drop (j + 1 + 1) (records_of c b)) (sym e)
+        ∙ ap (λ rs. pair_from s c b j ∷ pairs_of s rs) (sym rest)
+
+    pub pairs-passed : false ≡ opens (record_at c b j) → (s : Sheet) → pairs_of s (drop j (records_of c b)) ≡ pairs_of s (drop (j + 1) (records_of c b))
+    pairs-passed e s =
+        ap (pairs_of s) both ∙ pairs_past s (record_at c b j) (record_at c b (j + 1)) (drop (j + 1 + 1) (records_of c b)) (sym e)
+        ∙ ap (pairs_of s) (sym rest)
+
+module _ {c : ℕ} {b : List ℕ} {i left j : ℕ} (r : Seeking c b i left j) where
+  pub seeking_last : u32 b 4 ≤ j + 1 → FoundAs c b i None
   seeking_last h = record {
-    is = λ s. r.still s
-        ∙ ap (drop left) (pairs_none s (drop j (records_of c b)) (omega (arith, length-drop j (records_of c b), records-length c b)))
-        ∙ drop_of_length-le [] {i = left} (omega arith);
+    is = λ s. r.still s ∙ ap (drop left) (pairs-last c b j h s) ∙ drop_of_length-le [] {i = left} (omega arith);
     ok = tt;
   }
 
   module _ (more : j + 1 < u32 b 4) where
-    abbrev first : Record
-    first = record_at c b j
-
-    abbrev second : Record
-    second = record_at c b (j + 1)
-
-    rest : drop (j + 1) (records_of c b) ≡ second ∷ drop (j + 1 + 1) (records_of c b)
-    rest = record_next c b (j + 1) more
-
-    both : drop j (records_of c b) ≡ first ∷ second ∷ drop (j + 1 + 1) (records_of c b)
-    both = record_next c b j (omega arith) ∙ ap (λ rs. first ∷ rs) rest
-
-    -- whether this record opens, by its operate
-    opening : {t : Bool} → t ≡ (eqb (get_or b at 0) LO || eqb (get_or b at 0) SO) → opens first ≡ t
-    opening {t} e =
-        let o : get_or b at 0 ≡ first.operate = ap (λ (k : ℕ). get_or b k 0) r.here ∙ sym (operate-at c b j) in
-        sym (e ∙ ap (λ (x : ℕ). eqb x LO || eqb x SO) o)
-
-    -- the pairs of what is left, where it does
-    opened : true ≡ (eqb (get_or b at 0) LO || eqb (get_or b at 0) SO) → (s : Sheet) → pairs_of s (drop j (records_of c b)) ≡ pair_of s first second ∷ pairs_of s (drop (j + 1) (records_of c b))
-    opened e s =
-        ap (pairs_of s) both ∙ pairs_first s first second (drop (j + 1 + 1) (records_of c b)) (opening e)
-        ∙ ap (λ rs. pair_of s first second ∷ pairs_of s rs) (sym rest)
-
-    pub seeking_hit : true ≡ (eqb (get_or b at 0) LO || eqb (get_or b at 0) SO) → left ≡ 0 → FoundAs c b from i (At j)
+    pub seeking_hit : true ≡ opens (record_at c b j) → left ≡ 0 → FoundAs c b i (Some j)
     seeking_hit e z = record {
-      is = λ s. r.still s ∙ ap (λ (k : ℕ). drop k (pairs_of s (drop j (records_of c b)))) z ∙ opened e s;
-      ok = (r.begun, more);
+      is = λ s. r.still s ∙ ap (λ (k : ℕ). drop k (pairs_of s (drop j (records_of c b)))) z ∙ pairs-opened c b j more e s;
+      ok = (more, sym e);
     }
 
     -- one record further
-    next : {k : ℕ} → ((s : Sheet) → drop left (pairs_of s (drop j (records_of c b))) ≡ drop k (pairs_of s (drop (j + 1) (records_of c b)))) → Seeking c b from i (at + 32) k (j + 1)
-    next {k} e = record { begun = omega (arith, r.begun); le = omega arith; here = omega (arith, r.here); still = λ s. r.still s ∙ e s }
+    next : {k : ℕ} → ((s : Sheet) → drop left (pairs_of s (drop j (records_of c b))) ≡ drop k (pairs_of s (drop (j + 1) (records_of c b)))) → Seeking c b i k (j + 1)
+    next {k} e = record { le = omega arith; still = λ s. r.still s ∙ e s }
 
-    pub seeking_opened : true ≡ (eqb (get_or b at 0) LO || eqb (get_or b at 0) SO) → (left ≡ 0 → ⊥) → Seeking c b from i (at + 32) (left - 1) (j + 1)
+    pub seeking_opened : true ≡ opens (record_at c b j) → (left ≡ 0 → ⊥) → Seeking c b i (left - 1) (j + 1)
     seeking_opened e z =
         let n : left ≡ suc (left - 1) = omega (arith, z) in
-        next (λ s. ap (λ (k : ℕ). drop k (pairs_of s (drop j (records_of c b)))) n ∙ ap (drop (suc (left - 1))) (opened e s))
+        next (λ s. ap (λ (k : ℕ). drop k (pairs_of s (drop j (records_of c b)))) n ∙ ap (drop (suc (left - 1))) (pairs-opened c b j more e s))
 
-    pub seeking_passed : false ≡ (eqb (get_or b at 0) LO || eqb (get_or b at 0) SO) → Seeking c b from i (at + 32) left (j + 1)
-    seeking_passed e =
-        next (λ s. ap (λ rs. drop left (pairs_of s rs)) both
-        ∙ ap (drop left) (pairs_past s first second (drop (j + 1 + 1) (records_of c b)) (opening e))
-        ∙ ap (λ rs. drop left (pairs_of s rs)) (sym rest))
+    pub seeking_passed : false ≡ opens (record_at c b j) → Seeking c b i left (j + 1)
+    seeking_passed e = next (λ s. ap (drop left) (pairs-passed c b j more e s))
 
 -- ---- the pair with an index
 
 module _ {c : ℕ} {b : List ℕ} {i : ℕ} (s : Sheet) where
-  pub found_none : FoundAs c b 0 i Nowhere → get_elem? (pairs_of s (records_of c b)) i ≡ none
+  pub found_none : FoundAs c b i None → slice_get (pairs_of s (records_of c b)) i ≡ None
   found_none f = none_left (pairs_of s (records_of c b)) i (f.is s)
 
-  pub found_some : {j : ℕ} → FoundAs c b 0 i (At j) → get_elem? (pairs_of s (records_of c b)) i ≡ some (pair_from s c b j)
+  pub found_some : {j : ℕ} → FoundAs c b i (Some j) → slice_get (pairs_of s (records_of c b)) i ≡ Some (pair_from s c b j)
   found_some f = next-at (pairs_of s (records_of c b)) i (f.is s)

@@ -9,10 +9,10 @@ use mir.Syntax.{w64}
 use mir.Val.{SFits, to_z}
 use mir.ValLaws.{to_z_pos}
 use mir.Facts.{to_z-of_z}
+use Rattle.double.specs.declared.Yield.{Yield}
 use Rattle.le.proofs.Signs.{back, step}
 use Rattle.double.specs.Double.{days_of, pair_yield}
 use Rattle.double.specs.declared.Side.{Side}
-use Rattle.double.specs.declared.Yield.{Yield}
 use Rattle.bar.specs.Time.{seconds_between}
 use Rattle.bar.specs.Bar.{local_of}
 use Rattle.bar.specs.declared.LocalTime.{LocalTime}

@@ -1,5 +1,7 @@
 -- A pair row by its parts, and the answer that a pair or a refusal gives. Assumes nothing.
-use Rattle.std.specs.Prelude.{ℕ, ◌≡◌, List}
+use Rattle.row.specs.Read.{row_read_of}
+use Rattle.row.specs.declared.RowError.{RowError}
+use Rattle.std.specs.Prelude.{ℕ, ◌≡◌, List, Result}
 use Rattle.std.proofs.Math.IntN.{sub_ℕ}
 use Rattle.le.specs.Le.{patch}
 use Rattle.text.specs.Answer.{Answer, Got, ◌>>=◌}
@@ -10,8 +12,6 @@ use Rattle.position.specs.Rows.{Pair, side_of}
 use Rattle.position.specs.declared.Record.{Record}
 use Rattle.position.specs.declared.PairRow.{PairRow}
 use Rattle.row.specs.Calls.{pair_text, pair_bytes, pair_row}
-use Rattle.row_pairs.specs.Read.{pair_read_of}
-use Rattle.row_pairs.specs.declared.PairRead.{PairRead}
 
 -- the row of two records, with the lengths of its texts
 unfoldable pub row_of : Record → Record → ℕ → ℕ → ℕ → PairRow
@@ -37,6 +37,6 @@ pub record PairPut (p : Pair) (before after : List ℕ) (r : PairRow) : Type 0 w
   pub bytes : after ≡ patch before 0 (pair_text p)
 
 -- r is x, and the buffer that was `before` has its texts
-pub record Answered (x : Answer Pair) (before after : List ℕ) (r : PairRead) : Type 0 where
-  pub is : pair_read_of r ≡ (x >>= λ p. Got (pair_row p))
+pub record Answered (x : Answer Pair) (before after : List ℕ) (r : Result PairRow RowError) : Type 0 where
+  pub is : row_read_of r ≡ (x >>= λ p. Got (pair_row p))
   pub bytes : after ≡ pair_bytes before x

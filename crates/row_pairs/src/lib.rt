@@ -3,7 +3,7 @@
 
 ghost use Rattle.std.specs.Prelude.{◌≡◌, true, cond, ◌+◌, ◌<◌, ◌≤◌, eqb, length};
 ghost use Rattle.le.specs.Field.{u32};
-ghost use Rattle.text.specs.Answer.{given, number};
+ghost use Rattle.text.specs.Answer.{given};
 ghost use Rattle.double.specs.Double.{days_of};
 ghost use Rattle.double.specs.declared.Side.TheVariants as Side;
 ghost use Rattle.operate.specs.Operate.{LO};
@@ -11,24 +11,24 @@ ghost use Rattle.bar.specs.Time.{seconds_between};
 ghost use Rattle.bar.specs.Bar.{time_ok};
 ghost use Rattle.table.specs.Layout.{counts_in, parts_in};
 ghost use Rattle.table.specs.Table.{is_table, sheet_of};
-ghost use Rattle.position.specs.Rows.{pair_of, pairs_of};
+ghost use Rattle.position.specs.Rows.{opens, pair_of, pairs_of};
 ghost use Rattle.book.specs.Layout.{record_place, records_of};
 ghost use Rattle.row.specs.Calls.{row_buffer, row_at};
-ghost use Rattle.row_pairs.specs.Read.{pair_read_of, PairAs};
-ghost use Rattle.row_pairs.specs.Found.{Traded, pair_from, FoundAs, Shown};
+ghost use Rattle.row_pairs.specs.Read.{PairAs};
+ghost use Rattle.row_pairs.specs.Found.{Traded, record_at, pair_from, FoundAs, Shown};
 ghost use Rattle.row_pairs.specs.Row.{row_of, PairPut, Answered};
 
 use bar::Time;
-use book::{ENTRY_LENGTH, HEAD_LENGTH};
-use book_check::{Checked, check_book};
+use book::{ENTRY_LENGTH, HEAD_LENGTH, OpenError};
 use book_entry::record_at;
 use book_field::local_of;
-use book_header::{Sized, size_of};
 use double::{Side, days, pair_yield};
 use le::get_u32;
 use operate::{LO, is_opening};
 use position::{PairRow, Record};
+use row::{RowError, index_of};
 use row_names::{name_text, symbol_text};
+use row_open::open_checked;
 use row_sequence::put_sequence;
 use text::put_part;
 
@@ -38,69 +38,41 @@ pub const ROW_BUFFER: usize = 2048;
 // Where in its slot a record has its operate.
 const OPERATE: usize = 24;
 
-// What a request for a pair row answers: the row, or why it is refused.
-#[derive(Clone, Copy)]
-pub enum PairRead {
-    Row(PairRow),
-    WrongLength,
-    NotTable,
-    NotBook,
-    PastLast,
-}
-
-impl PairRead {
-    // The number of the answer.
-    pub fn number(self) -> u32
-        ensures { result ≡ number (pair_read_of self) }
-    {
-        match self {
-            PairRead::Row(_) => 0,
-            PairRead::WrongLength => 8,
-            PairRead::NotTable => 9,
-            PairRead::NotBook => 10,
-            PairRead::PastLast => 15,
-        }
-    }
-}
-
-// The number of the record with which a pair starts, or none.
-#[derive(Clone, Copy)]
-pub enum FoundPair {
-    At(usize),
-    Nowhere,
-}
-
 // The side that an operate opens.
 fn side_of(operate: u8) -> Side
     ensures { result ≡ cond (eqb operate LO) Side.Long Side.Short }
 {
     if operate == LO {
-        return Side::Long;
+        Side::Long
+    } else {
+        Side::Short
     }
-    Side::Short
 }
 
-// Where pair number i of the records from number `from` on starts: a record that opens, with one behind it. Only the operates are read.
-pub fn find_pair(b: &[u8], c: u32, from: usize, i: usize) -> FoundPair
-    requires b_in_bounds { record_place c (u32 b.now 4) ≤ length b.now }
-    requires from_bound { from ≤ u32 b.now 4 }
-    ensures { FoundAs c b.now from i result }
+// Whether record number j of a book of c bars opens. Only its operate is read.
+pub fn opens_at(b: &[u8], c: u32, j: usize) -> bool
+    requires { record_place c j + 32 ≤ length b.now }
+    ensures { result ≡ opens (record_at c b.now j) }
+{
+    is_opening(b[HEAD_LENGTH + ENTRY_LENGTH * (c as usize) + ENTRY_LENGTH * j + OPERATE])
+}
+
+// Where pair number i of a book of c bars starts: a record that opens, with one behind it.
+pub fn find_pair(b: &[u8], c: u32, i: usize) -> Option<usize>
+    requires { record_place c (u32 b.now 4) ≤ length b.now }
+    ensures { FoundAs c b.now i result }
 {
     let n = get_u32(b, 4) as usize;
-    let mut at = HEAD_LENGTH + ENTRY_LENGTH * (c as usize) + ENTRY_LENGTH * from + OPERATE;
     let mut left = i;
-    let mut j = from;
-    while j + 1 < n {
-        if is_opening(b[at]) {
+    for j in 0..n.saturating_sub(1) {
+        if opens_at(b, c, j) {
             if left == 0 {
-                return FoundPair::At(j);
+                return Some(j);
             }
             left -= 1;
         }
-        at += ENTRY_LENGTH;
-        j += 1;
     }
-    FoundPair::Nowhere
+    None
 }
 
 // The days from one time to a later one.
@@ -109,9 +81,7 @@ fn days_between(a: Time, z: Time) -> f64
     requires fact_2 { time_ok z ≡ true }
     ensures { result ≡ days_of (seconds_between a.instant.0 z.instant.0) }
 {
-    let from = a.instant;
-    let to = z.instant;
-    days(from.seconds_to(to))
+    days(a.instant.seconds_to(z.instant))
 }
 
 // The row of two records, with the lengths of its texts.
@@ -120,20 +90,16 @@ fn row_of(a: Record, z: Record, symbol: usize, mark: usize, sequence: usize) -> 
     requires fact_2 { time_ok z.bar.time ≡ true }
     ensures { result ≡ row_of a z symbol mark sequence }
 {
-    let first = a.bar;
-    let last = z.bar;
-    let from = first.time;
-    let to = last.time;
     let side = side_of(a.operate);
     PairRow {
         side,
-        opened: local_of(from),
-        closed: local_of(to),
-        from: first.price,
-        to: last.price,
-        ids: last.id as i64 - first.id as i64,
-        days: days_between(from, to),
-        bp: pair_yield(side, first.price, last.price),
+        opened: local_of(a.bar.time),
+        closed: local_of(z.bar.time),
+        from: a.bar.price,
+        to: z.bar.price,
+        ids: z.bar.id as i64 - a.bar.id as i64,
+        days: days_between(a.bar.time, z.bar.time),
+        bp: pair_yield(side, a.bar.price, z.bar.price),
         symbol,
         mark,
         sequence,
@@ -173,34 +139,24 @@ pub fn pair_at(t: &[u8], b: &[u8], c: u32, j: usize, buffer: &mut [u8]) -> PairR
 }
 
 // Pair row number i of a book that passed the full check.
-fn row_at(t: &[u8], b: &[u8], c: u32, i: i64, buffer: &mut [u8]) -> PairRead
+fn row_at(t: &[u8], b: &[u8], c: u32, i: i64, buffer: &mut [u8]) -> Result<PairRow, RowError>
     requires t_value { is_table t.now ≡ true }
     requires traded { Traded (counts_in t.now).events c b.now }
     requires row_buffer_in_bounds { row_buffer ≤ length buffer.old }
     ensures { Answered (given 15 (row_at (pairs_of (sheet_of (parts_in t.now)) (records_of c b.now)) i)) buffer.old buffer.new result }
 {
-    if i < 0 {
-        return PairRead::PastLast;
-    }
-    let FoundPair::At(j) = find_pair(b, c, 0, i as usize) else {
-        return PairRead::PastLast;
-    };
-    PairRead::Row(pair_at(t, b, c, j, buffer))
+    let k = index_of(i)?;
+    let j = find_pair(b, c, k).ok_or(RowError::PastLast)?;
+    Ok(pair_at(t, b, c, j, buffer))
 }
 
 // Pair row number i of a book; its symbol, mark and sequence go to the start of the buffer.
-pub fn pair_row(table: &[u8], b: &[u8], i: i64, buffer: &mut [u8]) -> PairRead
+pub fn pair_row(table: &[u8], b: &[u8], i: i64, buffer: &mut [u8]) -> Result<PairRow, RowError>
     ensures { PairAs table.now b.now i buffer.old buffer.new result }
 {
-    let Sized::Bars(c) = size_of(table, b) else {
-        return PairRead::WrongLength;
-    };
     if buffer.len() < ROW_BUFFER {
-        return PairRead::WrongLength;
+        return Err(RowError::Open(OpenError::WrongLength));
     }
-    match check_book(table, b, c) {
-        Checked::NotTable => PairRead::NotTable,
-        Checked::NotBook => PairRead::NotBook,
-        Checked::Passed => row_at(table, b, c, i, buffer),
-    }
+    let c = open_checked(table, b)?;
+    row_at(table, b, c, i, buffer)
 }

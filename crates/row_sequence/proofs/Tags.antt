@@ -11,7 +11,6 @@ use lib.ListN.{length, get_or, take}
 use lib.Seq.{slice, take-length}
 use Rattle.text.specs.Literal.{bytes, encoded}
 use Rattle.text.specs.Text.{same, begins}
-use Rattle.text.specs.Read.{Put}
 use Rattle.operate.specs.Operate.{LO, LE, SO, SE}
 use Rattle.position.specs.Rows.{tagged, event_tag}
 
@@ -48,13 +47,7 @@ module _ (s d : List ℕ) where
         rw (take-length s)
         (sym (begins-is s d 35 h ∙ rw (eq-eqb 35 (get_or d (length s) 0) (sym e)) (and-true (same s (take (length s) d)))))
 
--- ---- the tag, by what the tests say
-
-pub tag_put : (d : List ℕ) {l m : List ℕ} {at r : ℕ} {a b c e : Bool} → a ≡ tagged LO d → b ≡ tagged SO d → c ≡ tagged LE d → e ≡ tagged SE d
-    → Put l m at (cond a (bytes "LO") (cond b (bytes "SO") (cond c (bytes "LE") (cond e (bytes "SE") (bytes "is_match"))))) r
-    → Put l m at (event_tag d) r
-unfolding event_tag
-tag_put d p q r s w = rw (← p, ← q, ← r, ← s) w
+-- ---- the tag
 
 -- no tag is longer than `is_match`
 pub tag_length : (d : List ℕ) → length (event_tag d) ≤ 8

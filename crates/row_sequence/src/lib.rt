@@ -41,13 +41,7 @@ fn starts_with(desc: &[u8], spelling: &[u8]) -> bool
     ensures { result ≡ begins (spelling.now ++ bytes "#") desc.now }
 {
     let n = spelling.len();
-    if desc.len() <= n {
-        return false;
-    }
-    if desc[n] != HASH {
-        return false;
-    }
-    part_eq(spelling, 0, n, desc, 0, n)
+    n < desc.len() && desc[n] == HASH && part_eq(spelling, 0, n, desc, 0, n)
 }
 
 // Whether desc starts with either spelling of an operate and `#`.
@@ -56,31 +50,24 @@ fn is_tagged(desc: &[u8], latin: &[u8], code: u32) -> bool
     requires latin_value { latin.now ≡ get_or Operate·latin code [] }
     ensures { result ≡ tagged code desc.now }
 {
-    if starts_with(desc, latin) {
-        return true;
-    }
-    let chinese = to_chinese(code);
-    starts_with(desc, &chinese)
+    starts_with(desc, latin) || starts_with(desc, &to_chinese(code))
 }
 
-// Writes the tag of desc to dst at `at` (the Rust's `event_tag_from_desc`), and answers the place behind it.
-fn put_event_tag(dst: &mut [u8], at: usize, desc: &[u8]) -> usize
-    requires { at + 8 ≤ length dst.old }
-    ensures { Put dst.old dst.new at (event_tag desc.now) result }
+// The tag of desc (the Rust's `event_tag_from_desc`).
+fn event_tag(desc: &[u8]) -> &'static [u8]
+    ensures { result.now ≡ event_tag desc.now }
 {
     if is_tagged(desc, b"LO", LO) {
-        return put_part(dst, at, b"LO", 0, 2);
+        b"LO"
+    } else if is_tagged(desc, b"SO", SO) {
+        b"SO"
+    } else if is_tagged(desc, b"LE", LE) {
+        b"LE"
+    } else if is_tagged(desc, b"SE", SE) {
+        b"SE"
+    } else {
+        b"is_match"
     }
-    if is_tagged(desc, b"SO", SO) {
-        return put_part(dst, at, b"SO", 0, 2);
-    }
-    if is_tagged(desc, b"LE", LE) {
-        return put_part(dst, at, b"LE", 0, 2);
-    }
-    if is_tagged(desc, b"SE", SE) {
-        return put_part(dst, at, b"SE", 0, 2);
-    }
-    put_part(dst, at, b"is_match", 0, 8)
 }
 
 // Writes an event's name with its tag to dst at `at` (the Rust's `format_event_desc_for_python`), and answers the place behind it.
@@ -89,13 +76,13 @@ fn put_event_desc(dst: &mut [u8], at: usize, desc: &[u8]) -> usize
     requires part_limit_in_bounds { at + part_limit ≤ length dst.old }
     ensures { PartPut dst.old dst.new at (sequence_part desc.now) result }
 {
-    let n = desc.len();
-    let p = put_part(dst, at, desc, 0, n);
+    let p = put_part(dst, at, desc, 0, desc.len());
     if contains(desc, AT) {
         return p;
     }
     let q = put_byte(dst, p, AT);
-    put_event_tag(dst, q, desc)
+    let tag = event_tag(desc);
+    put_part(dst, q, tag, 0, tag.len())
 }
 
 // Writes the name of a closing to dst at `at`, 平空 for SE and else 平多, and answers the place behind it.
@@ -103,12 +90,8 @@ fn put_close_name(dst: &mut [u8], at: usize, operate: u8) -> usize
     requires { at + 6 ≤ length dst.old }
     ensures { Put dst.old dst.new at (close_name operate) result }
 {
-    if operate as u32 == SE {
-        let short = to_chinese(SE);
-        return put_part(dst, at, &short, 0, 6);
-    }
-    let long = to_chinese(LE);
-    put_part(dst, at, &long, 0, 6)
+    let code = if operate as u32 == SE { SE } else { LE };
+    put_part(dst, at, &to_chinese(code), 0, 6)
 }
 
 // Writes the text of a closing by a stop or a timeout of h hundredths to dst at `at`, and answers the place behind it.
@@ -131,32 +114,15 @@ fn put_description(dst: &mut [u8], at: usize, t: &[u8], r: Record) -> usize
     requires part_limit_in_bounds { at + part_limit ≤ length dst.old }
     ensures { PartPut dst.old dst.new at (sequence_of (sheet_of (parts_in t.now)) r) result }
 {
-    let operate = r.operate;
-    let description = r.description;
-    match description {
-        Description::Event(i) => {
-            let name = event_text(t, i as usize);
-            put_event_desc(dst, at, name)
-        }
+    match r.description {
+        Description::Event(i) => put_event_desc(dst, at, event_text(t, i as usize)),
         Description::Stop => {
-            let s = read_settings(t);
-            put_closing(
-                dst,
-                at,
-                operate,
-                s.stop as u64,
-                b"BP\xe6\xad\xa2\xe6\x8d\x9f",
-            )
+            let h = read_settings(t).stop as u64;
+            put_closing(dst, at, r.operate, h, b"BP\xe6\xad\xa2\xe6\x8d\x9f")
         }
         Description::Timeout => {
-            let s = read_settings(t);
-            put_closing(
-                dst,
-                at,
-                operate,
-                100 * (s.timeout as u64),
-                b"K\xe8\xb6\x85\xe6\x97\xb6",
-            )
+            let h = 100 * (read_settings(t).timeout as u64);
+            put_closing(dst, at, r.operate, h, b"K\xe8\xb6\x85\xe6\x97\xb6")
         }
     }
 }

@@ -2,7 +2,10 @@
 use Prim.Native.Nat.{ℕ, ◌+◌, ◌*◌, ◌≤◌}
 use native.Mathlib.Omega.{arith}
 use mathlib.Core.List.{List, [], append_assoc, flat_map}
-use mathlib.Core.Option.{some}
+use Rattle.book.specs.declared.OpenError.{OpenError}
+use Rattle.std.specs.Prelude.{Some, Result, Ok, Err, IsOk}
+use Rattle.text.specs.Answer.{Refused, Got}
+use Rattle.book.specs.Opened.{open_refusal}
 use mathlib.Core.Path.{◌≡◌, refl, ap, ◌∙◌}
 use lib.ListN.{length, replicate}
 use Rattle.text.specs.Read.{Put}
@@ -16,7 +19,6 @@ use Rattle.book.specs.Layout.{capacity, fresh_book, holds_of}
 use Rattle.book.specs.Calls.{fresh_do}
 use Rattle.book.proofs.Lengths.{capacity_by}
 use Rattle.book_store.specs.Stored.{StoredAs}
-use Rattle.book_store.specs.declared.Stored.{Stored}
 use Rattle.run_fields.specs.Fields.{ShortPut}
 use Rattle.run_output.specs.Shown.{pair_room, hold_room}
 use Rattle.run_rows.specs.Rows.{Booked, pair_rows, pair_lines, hold_lines}
@@ -27,12 +29,20 @@ use Rattle.run_bars.specs.Steps.{Begun}
 
 -- ---- the fresh book
 
+-- zeros of a book's length are made one
+pub made : (zeros book : List ℕ) (r : Result (Unit {0}) OpenError) → length zeros ≡ 57696 → StoredAs (fresh_do zeros) zeros book r → IsOk r
+unfolding fresh_do
+made zeros book (Ok u) long stored = refl
+made zeros book (Err e) long stored =
+    let bars : capacity zeros ≡ Some run_bars = capacity_by zeros run_bars long (omega arith) (omega arith) in
+    absurd (let z : Refused (open_refusal e) ≡ Got (fresh_book run_bars) = stored.is ∙ rw bars refl in let y : ◌≡◌ {A = ℕ} 0 1 = cc in omega arith)
+
 -- zeros of a book's length are made a book of 900 bars, and the bars can be read
-pub started : {s table out : List ℕ} {from : ℕ} → Begun s table out from → (zeros book signals : List ℕ) (r : Stored) → length zeros ≡ 57696
+pub started : {s table out : List ℕ} {from : ℕ} → Begun s table out from → (zeros book signals : List ℕ) (r : Result (Unit {0}) OpenError) → length zeros ≡ 57696
     → StoredAs (fresh_do zeros) zeros book r → input_limit ≤ length signals → Running s table book signals out starting from
 unfolding fresh_do
 started {out = out} k zeros book signals r long stored room =
-    let bars : capacity zeros ≡ some run_bars = capacity_by zeros run_bars long (omega arith) (omega arith) in
+    let bars : capacity zeros ≡ Some run_bars = capacity_by zeros run_bars long (omega arith) (omega arith) in
     let is : book ≡ fresh_book run_bars = stored.bytes ∙ rw bars refl in
     record {
       sheet = k.sheet;

@@ -1,4 +1,6 @@
 -- What a line of the input does to the bars before it. Assumes nothing.
+use Rattle.std.specs.Prelude.{Option, Some, None, is_some, not, Result, Ok, Err}
+use mathlib.Core.Bool.{Bool, true, false, false≢true, true≢false}
 use Prim.Native.Nat.{ℕ, ◌+◌, ◌-◌, ◌≤◌, ◌<◌}
 use native.Mathlib.Omega.{arith}
 use mathlib.Core.List.{List, [], ◌∷◌, ◌++◌, append-nil}
@@ -16,25 +18,31 @@ use Rattle.sheet.specs.Sheet.{Sheet}
 use Rattle.bar.specs.declared.BarNumbers.{BarNumbers}
 use Rattle.position.specs.Feed.{Input, input_of}
 use Rattle.position.specs.Run.{add_signal, input_line, read_input}
-use Rattle.run_input.specs.Lines.{LineAs}
+use Rattle.run_input.specs.Lines.{input_refusal, LineAs}
+use Rattle.run_input.specs.declared.InputError.{InputError}
 use Rattle.run_input.specs.declared.InputLine.TheVariants as InputLine
 use Rattle.run_output.specs.Shown.{feed_room}
 use Rattle.run_rows.specs.Rows.{Booked}
 use Rattle.run_feed.specs.Steps.{FedAll, waiting_input, WaitingOk, waiting_room, FedWaiting, First, IsBar, asked, Running, SignalPut, SignalAdded, TakenAs, AllFed}
-use Rattle.run_feed.specs.declared.Waiting.{Waiting}
-use Rattle.run_feed.specs.declared.Waiting.TheVariants.{Bar, Nothing}
 use Rattle.run_feed.specs.declared.Progress.{Progress}
-use Rattle.run_feed.specs.declared.Taken.{Taken}
-use Rattle.run_feed.specs.declared.Taken.TheVariants as Taken
 use Rattle.run_feed.proofs.Fed.{fed-step, booked}
 
 -- ---- the bar that waits
 
 -- it is fed, where there is one
-pub fed-waiting : {table b next out more : List ℕ} {at r : ℕ} {sheet : Sheet} {done : List Input} (signals : List ℕ) (w : Waiting) → WaitingOk w → FedAll table b out at sheet done
+pub fed-waiting : {table b next out more : List ℕ} {at r : ℕ} {sheet : Sheet} {done : List Input} (signals : List ℕ) (w : Option BarNumbers) → WaitingOk w → FedAll table b out at sheet done
     → FedWaiting table b next w signals out more at r → FedAll table next more r sheet (done ++ waiting_input w signals) × (r ≤ at + waiting_room w)
-fed-waiting signals (Bar w) double f one = (fed-step f double one, one.line.short)
-fed-waiting {done = done} signals Nothing double f (e, g, h) = (rw (e, g, h, append-nil done) f, omega arith)
+fed-waiting signals (Some w) double f one = (fed-step f double one, one.line.short)
+fed-waiting {done = done} signals None double f (e, g, h) = (rw (e, g, h, append-nil done) f, omega arith)
+
+-- whether one waits
+pub none-waits : (w : Option BarNumbers) {none : Bool} → is_some w ≡ not none → none ≡ true → w ≡ None
+none-waits None e h = refl
+none-waits (Some b) e h = absurd (true≢false (e ∙ ap not h))
+
+pub bar-waits : (w : Option BarNumbers) {none : Bool} → is_some w ≡ not none → none ≡ false → IsBar w
+bar-waits None e h = absurd (false≢true (e ∙ ap not h))
+bar-waits (Some b) e h = tt
 
 -- a signal goes to the last bar
 add-last : (is : List Input) (b : BarNumbers) (signals l : List ℕ) → add_signal l (is ++ input_of b signals ∷ []) ≡ Got (is ++ input_of b (signals ++ l) ∷ [])
@@ -43,15 +51,15 @@ add-last [] b signals l = refl
 add-last (i ∷ []) b signals l = refl
 add-last (i ∷ j ∷ is) b signals l = rw (add-last (j ∷ is) b signals l) refl
 
-pub add-waiting : (w : Waiting) → IsBar w → (is : List Input) (signals l : List ℕ) → add_signal l (is ++ waiting_input w signals) ≡ Got (is ++ waiting_input w (signals ++ l))
-add-waiting (Bar b) h is signals l = add-last is b signals l
-add-waiting Nothing h is signals l = absurd h
+pub add-waiting : (w : Option BarNumbers) → IsBar w → (is : List Input) (signals l : List ℕ) → add_signal l (is ++ waiting_input w signals) ≡ Got (is ++ waiting_input w (signals ++ l))
+add-waiting (Some b) h is signals l = add-last is b signals l
+add-waiting None h is signals l = absurd h
 
 -- before the first bar it is in the wrong place
-add_stray : (w : Waiting) → w ≡ Nothing → (is : List Input) → First w is → (signals l : List ℕ) → add_signal l (is ++ waiting_input w signals) ≡ Refused 2
+add_stray : (w : Option BarNumbers) → w ≡ None → (is : List Input) → First w is → (signals l : List ℕ) → add_signal l (is ++ waiting_input w signals) ≡ Refused 2
 unfolding add_signal
-add_stray (Bar b) e is first signals l = absurd (let z : ◌≡◌ {A = ℕ} 0 1 = cc in omega arith)
-add_stray Nothing e is first signals l = rw first refl
+add_stray (Some b) e is first signals l = absurd (let z : ◌≡◌ {A = ℕ} 0 1 = cc in omega arith)
+add_stray None e is first signals l = rw first refl
 
 -- ---- texts
 
@@ -128,16 +136,13 @@ module _ {s table b signals out : List ℕ} {p : Progress} {from : ℕ} (k : Run
       read_next is e = read-line ∙ ap (λ (a : Answer (List Input)). asked k.sheet (a >>= λ js. lines_from input_line js s (to + 1))) (sym e)
 
       -- "a wrong tag, place or field count (2) or a malformed B field (3)"
-      pub took_malformed : LineAs (slice from to s) InputLine.Malformed → read_input s ≡ Refused 2
-      took_malformed l = read-refused 2 (l.is before)
-
-      pub took_number : LineAs (slice from to s) InputLine.BadNumber → read_input s ≡ Refused 3
-      took_number l = read-refused 3 (l.is before)
+      pub took_refused : (e : InputError) → LineAs (slice from to s) (Err e) → read_input s ≡ Refused (input_refusal e)
+      took_refused e l = read-refused (input_refusal e) (l.is before)
 
       -- a bar: the one that waited is fed, and it waits
-      pub took_bar : (w : BarNumbers) → LineAs (slice from to s) (InputLine.Bar w) → (next more : List ℕ) (r : ℕ)
+      pub took_bar : (w : BarNumbers) → LineAs (slice from to s) (Ok (InputLine.Bar w)) → (next more : List ℕ) (r : ℕ)
           → FedWaiting table b next p.waiting (take p.signals signals) out more p.at r → length more ≡ length out
-          → Running s table next signals more (record { waiting = Bar w; signals = 0; at = r }) (to + 1)
+          → Running s table next signals more (record { waiting = Some w; signals = 0; at = r }) (to + 1)
       took_bar w l next more r fed size =
           let done = fed-waiting (take p.signals signals) p.waiting k.waits k.fed fed in
           let long : length (slice from to s) ≡ to - from = length-slice from to s (omega arith) in
@@ -161,7 +166,7 @@ module _ {s table b signals out : List ℕ} {p : Progress} {from : ℕ} (k : Run
           }
 
       -- a signal of the bar that waits, or of none
-      pub signal_ready : LineAs (slice from to s) InputLine.Signal → ((from + 2 ≤ to) × (to < length s)) × (p.signals + to ≤ from + length signals)
+      pub signal_ready : LineAs (slice from to s) (Ok InputLine.Signal) → ((from + 2 ≤ to) × (to < length s)) × (p.signals + to ≤ from + length signals)
       signal_ready l =
           let long : length (slice from to s) ≡ to - from = length-slice from to s (omega arith) in
           let two = l.ok in
@@ -170,7 +175,7 @@ module _ {s table b signals out : List ℕ} {p : Progress} {from : ℕ} (k : Run
           let room = k.room in
           ((omega arith, omega arith), omega arith)
 
-      pub took_signal : LineAs (slice from to s) InputLine.Signal → (more : List ℕ) (q : Progress) → SignalPut s from to signals more p q → IsBar p.waiting
+      pub took_signal : LineAs (slice from to s) (Ok InputLine.Signal) → (more : List ℕ) (q : Progress) → SignalPut s from to signals more p q → IsBar p.waiting
           → Running s table b more out q (to + 1)
       took_signal l more q put bar =
           let long : length (slice from to s) ≡ to - from = length-slice from to s (omega arith) in
@@ -200,12 +205,12 @@ module _ {s table b signals out : List ℕ} {p : Progress} {from : ℕ} (k : Run
             space = k.space;
           }
 
-      pub took_stray : LineAs (slice from to s) InputLine.Signal → p.waiting ≡ Nothing → read_input s ≡ Refused 2
+      pub took_stray : LineAs (slice from to s) (Ok InputLine.Signal) → p.waiting ≡ None → read_input s ≡ Refused 2
       took_stray l e = read-refused 2 (sym (add_stray p.waiting e k.done k.first (take p.signals signals) (drop 2 (slice from to s) ++ LF ∷ [])) ∙ l.is before)
 
-      pub took_added : LineAs (slice from to s) InputLine.Signal → (more : List ℕ) (r : Taken) → SignalAdded s from to signals more p r → TakenAs s table b more out to r
-      took_added l more (Taken.Next q) a = took_signal l more q a.0 a.1
-      took_added l more (Taken.Refused n) a = rw a.0 (took_stray l a.2)
+      pub took_added : LineAs (slice from to s) (Ok InputLine.Signal) → (more : List ℕ) (r : Result Progress InputError) → SignalAdded s from to signals more p r → TakenAs s table b more out to r
+      took_added l more (Ok q) a = took_signal l more q a.0 a.1
+      took_added l more (Err e) a = rw a.0 (took_stray l a.2)
 
 -- ---- the loop
 
@@ -217,10 +222,10 @@ pub record Looping (s table first heard clean b signals out : List ℕ) (p : Pro
   pub paper : length out ≡ length clean
 
 module _ {s table first heard clean b signals out : List ℕ} {p : Progress} {i : ℕ} (l : Looping s table first heard clean b signals out p i) where
-  pub looping_next : (next notes more : List ℕ) (to : ℕ) (r : Taken) (q : Progress) → TakenAs s table next notes more to r → r ≡ Taken.Next q
+  pub looping_next : (next notes more : List ℕ) (to : ℕ) (r : Result Progress InputError) (q : Progress) → TakenAs s table next notes more to r → r ≡ Ok q
       → length next ≡ length b → length notes ≡ length signals → length more ≡ length out → Looping s table first heard clean next notes more q (to + 1)
   looping_next next notes more to r q t e x y z =
       record { running = subst (TakenAs s table next notes more to) e t; book = x ∙ l.book; notes = y ∙ l.notes; paper = z ∙ l.paper }
 
-pub refused_with : (s table next notes more : List ℕ) (to : ℕ) (r : Taken) (n : ℕ) → TakenAs s table next notes more to r → r ≡ Taken.Refused n → read_input s ≡ Refused n
-refused_with s table next notes more to r n t e = subst (TakenAs s table next notes more to) e t
+pub refused_with : (s table next notes more : List ℕ) (to : ℕ) (r : Result Progress InputError) (q : InputError) → TakenAs s table next notes more to r → r ≡ Err q → read_input s ≡ Refused (input_refusal q)
+refused_with s table next notes more to r q t e = subst (TakenAs s table next notes more to) e t

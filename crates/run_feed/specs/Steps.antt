@@ -1,8 +1,9 @@
 -- What is known while the run program reads the lines of its bars and feeds them. Assumes nothing.
-use Rattle.std.specs.Prelude.{ℕ, ◌+◌, ◌*◌, ◌≤◌, ◌≡◌, List, [], ◌∷◌, ◌++◌, T, length, take, replicate}
+use Rattle.std.specs.Prelude.{ℕ, ◌+◌, ◌*◌, ◌≤◌, ◌≡◌, List, [], ◌∷◌, ◌++◌, T, length, take, replicate, Option, Some, None, Result, Ok, Err}
 use Rattle.std.specs.Float.{binary64}
 use Rattle.std.specs.Float.Ieee.{fits}
 use Rattle.std.proofs.Math.Seq.{slice}
+use Rattle.bar.specs.declared.BarNumbers.{BarNumbers}
 use Rattle.text.specs.Answer.{Answer, Refused, Got, ◌>>=◌, number}
 use Rattle.text.specs.Read.{Put}
 use Rattle.text.proofs.Lines.{lines_from}
@@ -12,15 +13,12 @@ use Rattle.position.specs.State.{State, fresh_state}
 use Rattle.position.specs.Feed.{Input, input_of, feed_state}
 use Rattle.position.specs.Cases.{state_after}
 use Rattle.position.specs.Run.{run_bars, input_limit, input_line, Asked, read_input, line, feed_line, next_state}
+use Rattle.run_input.specs.Lines.{input_refusal}
+use Rattle.run_input.specs.declared.InputError.{InputError}
+use Rattle.run_input.specs.declared.InputError.TheVariants.{Malformed}
 use Rattle.run_output.specs.Shown.{feed_room}
 use Rattle.run_feed_one.specs.One.{Held, FedOne}
-use Rattle.run_feed.specs.declared.Waiting.{Waiting}
-use Rattle.run_feed.specs.declared.Waiting.TheVariants.{Bar, Nothing}
 use Rattle.run_feed.specs.declared.Progress.{Progress}
-use Rattle.run_feed.specs.declared.Taken.{Taken}
-use Rattle.run_feed.specs.declared.Taken.TheVariants as Taken
-use Rattle.run_feed.specs.declared.Ran.{Ran}
-use Rattle.run_feed.specs.declared.Ran.TheVariants as Ran
 
 -- room for every output
 abbrev pub output_room : ℕ
@@ -44,26 +42,26 @@ pub record FedAll (table b out : List ℕ) (at : ℕ) (sheet : Sheet) (done : Li
 
 -- ---- the bar that waits
 
-abbrev pub waiting_input : Waiting → List ℕ → List Input
-waiting_input (Bar b) signals = input_of b signals ∷ []
-waiting_input Nothing signals = []
+abbrev pub waiting_input : Option BarNumbers → List ℕ → List Input
+waiting_input (Some b) signals = input_of b signals ∷ []
+waiting_input None signals = []
 
-abbrev pub WaitingOk : Waiting → Type 0
-WaitingOk (Bar b) = T (fits binary64 b.price)
-WaitingOk Nothing = Unit {0}
+abbrev pub WaitingOk : Option BarNumbers → Type 0
+WaitingOk (Some b) = T (fits binary64 b.price)
+WaitingOk None = Unit {0}
 
-abbrev pub waiting_room : Waiting → ℕ
-waiting_room (Bar b) = feed_room
-waiting_room Nothing = 0
+abbrev pub waiting_room : Option BarNumbers → ℕ
+waiting_room (Some b) = feed_room
+waiting_room None = 0
 
-abbrev pub FedWaiting : List ℕ → List ℕ → List ℕ → Waiting → List ℕ → List ℕ → List ℕ → ℕ → ℕ → Type 0
-FedWaiting table b next (Bar w) signals out more at r = FedOne table b next (input_of w signals) out more at r
-FedWaiting table b next Nothing signals out more at r = (next ≡ b) × (more ≡ out) × (r ≡ at)
+abbrev pub FedWaiting : List ℕ → List ℕ → List ℕ → Option BarNumbers → List ℕ → List ℕ → List ℕ → ℕ → ℕ → Type 0
+FedWaiting table b next (Some w) signals out more at r = FedOne table b next (input_of w signals) out more at r
+FedWaiting table b next None signals out more at r = (next ≡ b) × (more ≡ out) × (r ≡ at)
 
 -- before the first bar none was fed
-abbrev pub First : Waiting → List Input → Type 0
-First (Bar b) done = Unit {0}
-First Nothing done = done ≡ []
+abbrev pub First : Option BarNumbers → List Input → Type 0
+First (Some b) done = Unit {0}
+First None done = done ≡ []
 
 -- ---- lines
 
@@ -72,7 +70,7 @@ asked sheet a = a >>= λ is. Got (record { sheet = sheet; inputs = is })
 
 -- before the first line
 abbrev pub starting : Progress
-starting = record { waiting = Nothing; signals = 0; at = 0 }
+starting = record { waiting = None; signals = 0; at = 0 }
 
 -- the lines of s before i are read: all their bars are fed but the one that waits
 pub record Running (s table b signals out : List ℕ) (p : Progress) (i : ℕ) : Type 0 where
@@ -89,9 +87,9 @@ pub record Running (s table b signals out : List ℕ) (p : Progress) (i : ℕ) :
   pub lines : p.at + waiting_room p.waiting ≤ 4 * i
   pub space : output_room ≤ length out
 
-abbrev pub IsBar : Waiting → Type 0
-IsBar (Bar b) = Unit {0}
-IsBar Nothing = ⊥
+abbrev pub IsBar : Option BarNumbers → Type 0
+IsBar (Some b) = Unit {0}
+IsBar None = ⊥
 
 -- a line of signals was added to the bar that waits, or none waits
 pub record SignalPut (s : List ℕ) (from to : ℕ) (signals more : List ℕ) (p q : Progress) : Type 0 where
@@ -99,13 +97,13 @@ pub record SignalPut (s : List ℕ) (from to : ℕ) (signals more : List ℕ) (p
   pub at : q.at ≡ p.at
   pub put : Put signals more p.signals (slice (from + 2) (to + 1) s) q.signals
 
-abbrev pub SignalAdded : List ℕ → ℕ → ℕ → List ℕ → List ℕ → Progress → Taken → Type 0
-SignalAdded s from to signals more p (Taken.Next q) = SignalPut s from to signals more p q × IsBar p.waiting
-SignalAdded s from to signals more p (Taken.Refused k) = (k ≡ 2) × (more ≡ signals) × (p.waiting ≡ Nothing)
+abbrev pub SignalAdded : List ℕ → ℕ → ℕ → List ℕ → List ℕ → Progress → Result Progress InputError → Type 0
+SignalAdded s from to signals more p (Ok q) = SignalPut s from to signals more p q × IsBar p.waiting
+SignalAdded s from to signals more p (Err e) = (e ≡ Malformed) × (more ≡ signals) × (p.waiting ≡ None)
 
-abbrev pub TakenAs : List ℕ → List ℕ → List ℕ → List ℕ → List ℕ → ℕ → Taken → Type 0
-TakenAs s table b signals out to (Taken.Next q) = Running s table b signals out q (to + 1)
-TakenAs s table b signals out to (Taken.Refused k) = read_input s ≡ Refused k
+abbrev pub TakenAs : List ℕ → List ℕ → List ℕ → List ℕ → List ℕ → ℕ → Result Progress InputError → Type 0
+TakenAs s table b signals out to (Ok q) = Running s table b signals out q (to + 1)
+TakenAs s table b signals out to (Err e) = read_input s ≡ Refused (input_refusal e)
 
 -- ---- all of them
 
@@ -117,6 +115,6 @@ pub record AllFed (s table b out : List ℕ) (at : ℕ) : Type 0 where
   pub few : at ≤ 4 * input_limit + feed_room
   pub space : output_room ≤ length out
 
-abbrev pub FedAs : List ℕ → List ℕ → List ℕ → List ℕ → Ran → Type 0
-FedAs s table b out (Ran.Printed at) = AllFed s table b out at
-FedAs s table b out (Ran.Refused k) = read_input s ≡ Refused k
+abbrev pub FedAs : List ℕ → List ℕ → List ℕ → List ℕ → Result ℕ InputError → Type 0
+FedAs s table b out (Ok at) = AllFed s table b out at
+FedAs s table b out (Err e) = read_input s ≡ Refused (input_refusal e)

@@ -10,36 +10,15 @@ ghost use Rattle.run_feed.specs.Steps.{WaitingOk, FedWaiting, SignalAdded, start
 
 use bar::BarNumbers;
 use run_feed_one::feed_one;
-use run_input::{InputLine, read_line};
+use run_input::{InputError, InputLine, read_line};
 use text::{LF, find, put_part};
-
-// The bar that waits for its signals, or none before the first bar.
-#[derive(Clone, Copy)]
-enum Waiting {
-    Bar(BarNumbers),
-    Nothing,
-}
 
 // What waits, how many bytes its signals have, and how many were printed.
 #[derive(Clone, Copy)]
 struct Progress {
-    waiting: Waiting,
+    waiting: Option<BarNumbers>,
     signals: usize,
     at: usize,
-}
-
-// What a line leaves, or why it is refused.
-#[derive(Clone, Copy)]
-enum Taken {
-    Next(Progress),
-    Refused(u32),
-}
-
-// How many bytes were printed, or why the input is refused.
-#[derive(Clone, Copy)]
-pub enum Ran {
-    Printed(usize),
-    Refused(u32),
 }
 
 // Feeds the bar that waits, where there is one.
@@ -50,32 +29,29 @@ fn feed_waiting(table: &[u8], book: &mut [u8], p: Progress, signals: &[u8], out:
     requires feed_room_in_bounds { p.at + feed_room ≤ length out.old }
     ensures { FedWaiting table.now book.old book.new p.waiting (take p.signals signals.now) out.old out.new p.at result }
 {
-    let waiting = p.waiting;
-    let n = p.signals;
-    match waiting {
-        Waiting::Bar(b) => feed_one(table, book, b, &signals[..n], out, p.at),
-        Waiting::Nothing => p.at,
+    match p.waiting {
+        Some(b) => feed_one(table, book, b, &signals[..p.signals], out, p.at),
+        None => p.at,
     }
 }
 
 // Adds a line of signals, from..to of s with its LF, to the bar that waits.
-fn add_signal(s: &[u8], from: usize, to: usize, signals: &mut [u8], p: Progress) -> Taken
+fn add_signal(
+    s: &[u8],
+    from: usize,
+    to: usize,
+    signals: &mut [u8],
+    p: Progress,
+) -> Result<Progress, InputError>
     requires from_bound { (from + 2 ≤ to) × (to < length s.now) }
     requires to_bound { p.signals + to ≤ from + length signals.old }
     ensures { SignalAdded s.now from to signals.old signals.new p result }
 {
-    let waiting = p.waiting;
-    match waiting {
-        Waiting::Bar(b) => {
-            let n = put_part(signals, p.signals, s, from + 2, to + 1);
-            Taken::Next(Progress {
-                waiting: Waiting::Bar(b),
-                signals: n,
-                at: p.at,
-            })
-        }
-        Waiting::Nothing => Taken::Refused(2),
+    if p.waiting.is_none() {
+        return Err(InputError::Malformed);
     }
+    let n = put_part(signals, p.signals, s, from + 2, to + 1);
+    Ok(Progress { signals: n, ..p })
 }
 
 // Takes the line of s in from..to: a bar feeds the one before it, and waits for its signals.
@@ -88,24 +64,22 @@ fn take_line(
     signals: &mut [u8],
     out: &mut [u8],
     p: Progress,
-) -> Taken
+) -> Result<Progress, InputError>
     requires running { Running s.now table.now book.old signals.old out.old p from }
     requires first_at { FirstAt s.now from (length s.now) LF to }
     requires to_in_bounds { to < length s.now }
     ensures { TakenAs s.now table.now book.new signals.new out.new to result }
 {
-    match read_line(s, from, to) {
+    match read_line(s, from, to)? {
         InputLine::Bar(b) => {
             let at = feed_waiting(table, book, p, signals, out);
-            Taken::Next(Progress {
-                waiting: Waiting::Bar(b),
+            Ok(Progress {
+                waiting: Some(b),
                 signals: 0,
                 at,
             })
         }
         InputLine::Signal => add_signal(s, from, to, signals, p),
-        InputLine::Malformed => Taken::Refused(2),
-        InputLine::BadNumber => Taken::Refused(3),
     }
 }
 
@@ -117,13 +91,13 @@ pub fn feed_lines(
     from: usize,
     signals: &mut [u8],
     out: &mut [u8],
-) -> Ran
+) -> Result<usize, InputError>
     requires { Running s.now table.now book.old signals.old out.old starting from }
     ensures { FedAs s.now table.now book.new out.new result }
 {
     let n = s.len();
     let mut p = Progress {
-        waiting: Waiting::Nothing,
+        waiting: None,
         signals: 0,
         at: 0,
     };
@@ -131,17 +105,10 @@ pub fn feed_lines(
     while i < n {
         let end = find(s, i, n, LF);
         if end == n {
-            return Ran::Refused(2);
+            return Err(InputError::Malformed);
         }
-        match take_line(table, book, s, i, end, signals, out, p) {
-            Taken::Next(q) => {
-                p = q;
-            }
-            Taken::Refused(k) => {
-                return Ran::Refused(k);
-            }
-        }
+        p = take_line(table, book, s, i, end, signals, out, p)?;
         i = end + 1;
     }
-    Ran::Printed(feed_waiting(table, book, p, signals, out))
+    Ok(feed_waiting(table, book, p, signals, out))
 }

@@ -1,4 +1,7 @@
 -- One bar: its feed and its line make what is said of it. Assumes nothing.
+use Rattle.position.specs.declared.Report.{Report}
+use Rattle.book_feed.specs.declared.FeedError.{FeedError}
+use Rattle.std.specs.Prelude.{Result, Ok, Err}
 use Prim.Native.Nat.{ℕ, ◌+◌, ◌-◌, ◌≤◌}
 use mathlib.Core.List.{List, [], ◌∷◌, ◌++◌}
 use mathlib.Core.Path.{◌≡◌, refl, ap, subst, ◌∙◌}
@@ -22,8 +25,6 @@ use Rattle.position.specs.declared.Head.{Head}
 use Rattle.book.specs.Layout.{head_of}
 use Rattle.book.specs.Calls.{feed_do}
 use Rattle.book_feed.specs.Feed.{feed_of, FeedAs}
-use Rattle.book_feed.specs.declared.Feed.{Feed}
-use Rattle.book_feed.specs.declared.Feed.TheVariants.{Done, WrongLength, NotTable, NotBook, BadBar, WrongLine, LongPrice, PastLimit, NotUtf8, Malformed, Twice, Late, Full}
 use Rattle.run_rows.specs.Rows.{Booked}
 use Rattle.run_rows.proofs.Lent.{lent_put}
 use Rattle.run_output.specs.Shown.{feed_room}
@@ -31,26 +32,15 @@ use Rattle.run_feed_one.specs.One.{FedOne}
 use Rattle.run_feed_one.proofs.Next.{booked_next, book-long}
 
 -- the number of a feed's answer, whatever its bytes
-number_same : (a b : List ℕ) (r : Feed) → number (feed_of a r) ≡ number (feed_of b r)
-number_same a b (Done r) = refl
-number_same a b NotUtf8 = refl
-number_same a b Malformed = refl
-number_same a b PastLimit = refl
-number_same a b WrongLength = refl
-number_same a b NotTable = refl
-number_same a b NotBook = refl
-number_same a b BadBar = refl
-number_same a b Twice = refl
-number_same a b Late = refl
-number_same a b Full = refl
-number_same a b WrongLine = refl
-number_same a b LongPrice = refl
+number_same : (a b : List ℕ) (r : Result Report FeedError) → number (feed_of a r) ≡ number (feed_of b r)
+number_same a b (Ok r) = refl
+number_same a b (Err e) = refl
 
 -- the numbers of a bar as they are handed on
 abbrev pub handed : BarNumbers → List ℕ → Input
 handed w signals = record { id = back w64 w.id; instant = back w64 w.instant; offset = back w64 w.offset; price = w.price; signals = signals }
 
-module _ (table : List ℕ) {b next : List ℕ} (w : BarNumbers) (signals : List ℕ) (x : SFits w64 w.id) (y : SFits w64 w.instant) (z : SFits w64 w.offset) (r : Feed)
+module _ (table : List ℕ) {b next : List ℕ} (w : BarNumbers) (signals : List ℕ) (x : SFits w64 w.id) (y : SFits w64 w.instant) (z : SFits w64 w.offset) (r : Result Report FeedError)
     (f : FeedAs (feed_do table b (handed w signals)) b next r) where
   handed_is : handed w signals ≡ input_of w signals
   handed_is = rw (to_z-of_z {w = w64} x, to_z-of_z {w = w64} y, to_z-of_z {w = w64} z)

@@ -30,13 +30,16 @@ pub fn feed_one(
     ensures { FedOne table.now book.old book.new (input_of b signals.now) out.old out.new at result }
 {
     let r = feed_bar(table, book, b.id, b.instant, b.offset, b.price, signals);
+    let number = match r {
+        Ok(_) => 0,
+        Err(e) => e.number(),
+    };
     let h = read_head(book);
-    let pos = h.pos;
     let n = put_feed(
         &mut out[at..at + FEED_ROOM],
         0,
-        r.number(),
-        pos_sign(pos),
+        number,
+        pos_sign(h.pos),
         h.changed,
     );
     at + n

@@ -2,10 +2,10 @@
 use Rattle.std.specs.Prelude.{ℕ, ◌+◌, ◌≤◌, not, T}
 use mathlib.Core.List.{List, [], ◌∷◌, ◌++◌, flat_map}
 use Rattle.std.specs.Float.Ieee.{is_nan}
-use Rattle.text.specs.Text.{pipe}
-use Rattle.text.specs.Read.{Put}
 use Rattle.double.specs.declared.Yield.{Yield}
 use Rattle.double.specs.declared.Yield.TheVariants.{Absent, Bp}
+use Rattle.text.specs.Text.{pipe}
+use Rattle.text.specs.Read.{Put}
 
 -- fields that others follow
 unfoldable pub fields_text : List (List ℕ) → List ℕ

@@ -19,11 +19,8 @@ fn put_integer(out: &mut [u8], at: usize, v: i64) -> usize
     requires { at + 21 ≤ length out.old }
     ensures { ShortPut 21 out.old out.new at (integer_of v) result }
 {
-    if v < 0 {
-        let digits = put_byte(out, at, b'-');
-        return put_decimal(out, digits, (-1 - v) as u64 + 1);
-    }
-    put_decimal(out, at, v as u64)
+    let digits = if v < 0 { put_byte(out, at, b'-') } else { at };
+    put_decimal(out, digits, v.unsigned_abs())
 }
 
 // The bits of a double.
@@ -32,7 +29,7 @@ fn put_real(out: &mut [u8], at: usize, x: f64) -> usize
     requires t { T (not (is_nan x)) }
     ensures { ShortPut 16 out.old out.new at (hex_bits x) result }
 {
-    put_hex(out, at, f64::to_bits(x))
+    put_hex(out, at, x.to_bits())
 }
 
 // The bits of a yield, or `-`.
@@ -42,8 +39,8 @@ fn put_yield(out: &mut [u8], at: usize, y: Yield) -> usize
     ensures { ShortPut 16 out.old out.new at (yield_text y) result }
 {
     match y {
-        Yield::Absent => put_byte(out, at, b'-'),
         Yield::Bp(x) => put_real(out, at, x),
+        Yield::Absent => put_byte(out, at, b'-'),
     }
 }
 
@@ -52,10 +49,11 @@ pub fn put_side(out: &mut [u8], at: usize, side: Side) -> usize
     requires { at + 1 ≤ length out.old }
     ensures { ShortPut 1 out.old out.new at (side_text side) result }
 {
-    match side {
-        Side::Long => put_byte(out, at, b'L'),
-        Side::Short => put_byte(out, at, b'S'),
-    }
+    let letter = match side {
+        Side::Long => b'L',
+        Side::Short => b'S',
+    };
+    put_byte(out, at, letter)
 }
 
 // 1 or 0.
@@ -63,10 +61,7 @@ pub fn put_flag(out: &mut [u8], at: usize, t: bool) -> usize
     requires { at + 1 ≤ length out.old }
     ensures { ShortPut 1 out.old out.new at (flag_text t) result }
 {
-    if t {
-        return put_byte(out, at, b'1');
-    }
-    put_byte(out, at, b'0')
+    put_byte(out, at, if t { b'1' } else { b'0' })
 }
 
 // A whole number that other fields follow.

@@ -3,7 +3,7 @@ use Prim.Native.Nat.{ℕ, ◌+◌}
 use native.Mathlib.Omega.{arith}
 use mathlib.Core.Bool.{Bool, true, false, cond}
 use mathlib.Core.List.{List, [], ◌∷◌}
-use mathlib.Core.Option.{none, some}
+use Rattle.std.specs.Prelude.{None, Some}
 use mathlib.Core.Path.{◌≡◌, refl, sym, ap, subst}
 use borrow.Author.Tests.{eqb-true}
 use lib.Dec.{T, eqb}
@@ -23,15 +23,14 @@ use Rattle.sheet.specs.Places.{fields_of}
 use Rattle.sheet.proofs.Fields.{Cut, last_field}
 use Rattle.position.specs.Run.{bar_line}
 use Rattle.run_input.specs.Lines.{BarAs}
-use Rattle.run_input.specs.declared.InputLine.TheVariants.{Bar, BadNumber}
 use Rattle.text_number.proofs.Whole.{not_some}
 
 -- bits that were read are sixteen digits
-bits_size : (l : List ℕ) {v : ℕ} → some v ≡ bits_of l → length l ≡ 16
+bits_size : (l : List ℕ) {v : ℕ} → Some v ≡ bits_of l → length l ≡ 16
 unfolding bits_of
 bits_size l {v} e = go (eqb (length l) 16) refl e
   where
-    go : (t : Bool) → eqb (length l) 16 ≡ t → some v ≡ cond t (hex_digits (some 0) l) none → length l ≡ 16
+    go : (t : Bool) → eqb (length l) 16 ≡ t → Some v ≡ cond t (hex_digits (Some 0) l) None → length l ≡ 16
     go true h k = eqb-true (length l) 16 h
     go false h k = absurd (not_some k)
 
@@ -39,31 +38,31 @@ module _ {s : List ℕ} {from to a : ℕ} (f : Cut s from to a 3) where
   five : length (bytes "B" ∷ split pipe (slice from to s)) ≡ 5
   five = omega (arith, ap length f.fields, f.left)
 
-  pub bad_id : none ≡ plus (digits_to 10 (slice from a s)) → BarAs (slice from to s) BadNumber
+  pub bad_id : None ≡ plus (digits_to 10 (slice from a s)) → BarAs (slice from to s) None
   unfolding bar_line
   bad_id e = record { is = rw (five, f.fields, ← e); ok = tt }
 
-  module _ {id : ℤ} (e0 : some id ≡ plus (digits_to 10 (slice from a s))) {b : ℕ} (g : Cut s (a + 1) to b 2) where
-    pub bad_instant : none ≡ plus (digits_to 16 (slice (a + 1) b s)) → BarAs (slice from to s) BadNumber
+  module _ {id : ℤ} (e0 : Some id ≡ plus (digits_to 10 (slice from a s))) {b : ℕ} (g : Cut s (a + 1) to b 2) where
+    pub bad_instant : None ≡ plus (digits_to 16 (slice (a + 1) b s)) → BarAs (slice from to s) None
     unfolding bar_line
     bad_instant e = record { is = rw (five, f.fields, g.fields, ← e0, ← e); ok = tt }
 
-    module _ {instant : ℤ} (e1 : some instant ≡ plus (digits_to 16 (slice (a + 1) b s))) {c : ℕ} (h : Cut s (b + 1) to c 1) where
-      pub bad_offset : none ≡ signed_to 10 (slice (b + 1) c s) → BarAs (slice from to s) BadNumber
+    module _ {instant : ℤ} (e1 : Some instant ≡ plus (digits_to 16 (slice (a + 1) b s))) {c : ℕ} (h : Cut s (b + 1) to c 1) where
+      pub bad_offset : None ≡ signed_to 10 (slice (b + 1) c s) → BarAs (slice from to s) None
       unfolding bar_line
       bad_offset e = record { is = rw (five, f.fields, g.fields, h.fields, ← e0, ← e1, ← e); ok = tt }
 
-      module _ {offset : ℤ} (e2 : some offset ≡ signed_to 10 (slice (b + 1) c s)) where
+      module _ {offset : ℤ} (e2 : Some offset ≡ signed_to 10 (slice (b + 1) c s)) where
         last : fields_of s (c + 1) to ≡ slice (c + 1) to s ∷ []
         last = last_field s (c + 1) to h.left
 
-        pub bad_price : none ≡ bits_of (slice (c + 1) to s) → BarAs (slice from to s) BadNumber
+        pub bad_price : None ≡ bits_of (slice (c + 1) to s) → BarAs (slice from to s) None
         unfolding bar_line
         bad_price e = record { is = rw (five, f.fields, g.fields, h.fields, last, ← e0, ← e1, ← e2, ← e); ok = tt }
 
-        pub bar-is : {bits : ℕ} → some bits ≡ bits_of (slice (c + 1) to s) → {x : Float} → x ≡ of_bits binary64 bits
+        pub bar-is : {bits : ℕ} → Some bits ≡ bits_of (slice (c + 1) to s) → {x : Float} → x ≡ of_bits binary64 bits
             → SFits w64 id → SFits w64 instant → SFits w64 offset
-            → BarAs (slice from to s) (Bar (record { id = back w64 id; instant = back w64 instant; offset = back w64 offset; price = x }))
+            → BarAs (slice from to s) (Some (record { id = back w64 id; instant = back w64 instant; offset = back w64 offset; price = x }))
         unfolding bar_line
         bar-is {bits} e3 {x} k i j o = record {
           is = rw (five, f.fields, g.fields, h.fields, last, ← e0, ← e1, ← e2, ← e3, to_z-of_z i, to_z-of_z j, to_z-of_z o, k);

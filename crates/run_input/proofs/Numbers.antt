@@ -3,7 +3,7 @@ use Prim.Native.Nat.{ℕ, zero, suc, ◌+◌, ◌≤◌}
 use native.Mathlib.Omega.{arith}
 use mathlib.Core.List.{List, ◌∷◌}
 use mathlib.Core.Logic.{◌≢◌}
-use mathlib.Core.Option.{none, some}
+use Rattle.std.specs.Prelude.{None, Some}
 use mathlib.Core.Path.{◌≡◌, ◌∙◌, ap}
 use borrow.Author.Tests.{ne_eqb}
 use lib.IntN.{pos, neg_ℤ, ◌-ℤ◌, +ℤ_idl}
@@ -24,20 +24,20 @@ negative_in : (v : ℕ) → v ≤ 999999999999999999 → SFits w64 (neg_ℤ (pos
 negative_in zero h = record { sfits = omega arith }
 negative_in (suc v) h = record { sfits = omega arith }
 
-module _ {n : ℕ} (few : n ≤ 18) (l : List ℕ) {v : ℕ} (e : some v ≡ digits_to n l) where
+module _ {n : ℕ} (few : n ≤ 18) (l : List ℕ) {v : ℕ} (e : Some v ≡ digits_to n l) where
   turned : SFits w64 (pos 0 -ℤ to_z w64 v) × (back w64 (pos 0 -ℤ to_z w64 v) ≡ neg_ℤ (pos v))
   turned = step (ap (λ z. pos 0 -ℤ z) (to_z_pos w64 v (small few l e)) ∙ +ℤ_idl (neg_ℤ (pos v))) (negative_in v (digits_in n l few e))
 
   pub minus_fits : SFits w64 (pos 0 -ℤ to_z w64 v)
   minus_fits = turned.0
 
-  pub minus_is : some (back w64 (pos 0 -ℤ to_z w64 v)) ≡ negated (digits_to n l)
-  minus_is = ap some turned.1 ∙ ap negated e
+  pub minus_is : Some (back w64 (pos 0 -ℤ to_z w64 v)) ≡ negated (digits_to n l)
+  minus_is = ap Some turned.1 ∙ ap negated e
 
 -- ---- the sign
 
 module _ {s : List ℕ} {from to : ℕ} (p : Part s from to) (n : ℕ) where
-  pub signed-none : from ≡ to → none ≡ signed_to n (slice from to s)
+  pub signed-none : from ≡ to → None ≡ signed_to n (slice from to s)
   unfolding signed_to
   signed-none e = rw (part_nil from to s (omega arith))
 

@@ -4,7 +4,7 @@ use native.Mathlib.Omega.{arith}
 use mathlib.Core.Bool.{true, false, cond}
 use mathlib.Core.List.{List, [], ◌∷◌, ◌++◌, append-nil, append_assoc, flat_map}
 use mathlib.Core.Logic.{◌≢◌}
-use mathlib.Core.Option.{Option, none, some}
+use Rattle.std.specs.Prelude.{Option, None, Some}
 use mathlib.Core.Path.{◌≡◌, ◌∙◌, refl, sym, ap, ap₂}
 use lib.ListN.{length, take, drop, length-append, take-append-drop}
 use lib.Seq.{slice, length-slice, length-take-le, take_at}
@@ -21,16 +21,16 @@ use Rattle.run_input.specs.Lines.{CutAt}
 -- ---- lines in front of those of a sheet
 
 abbrev pub after : List (List ℕ) → Option Cut → Option Cut
-after ps none = none
-after ps (some c) = some (record { sheet = ps ++ c.sheet; bars = c.bars })
+after ps None = None
+after ps (Some c) = Some (record { sheet = ps ++ c.sheet; bars = c.bars })
 
 after_nothing : (o : Option Cut) → after [] o ≡ o
-after_nothing none = refl
-after_nothing (some c) = refl
+after_nothing None = refl
+after_nothing (Some c) = refl
 
 after_one : (ps : List (List ℕ)) (p : List ℕ) (o : Option Cut) → after ps (behind p o) ≡ after (ps ++ p ∷ []) o
-after_one ps p none = refl
-after_one ps p (some c) = ap (λ l. some (record { sheet = l; bars = c.bars })) (sym (append_assoc ps (p ∷ []) c.sheet))
+after_one ps p None = refl
+after_one ps p (Some c) = ap (λ l. Some (record { sheet = l; bars = c.bars })) (sym (append_assoc ps (p ∷ []) c.sheet))
 
 ended-one : (ps : List (List ℕ)) (p : List ℕ) → ended (ps ++ p ∷ []) ≡ ended ps ++ (p ++ LF ∷ [])
 unfolding ended flat_map
@@ -44,12 +44,12 @@ ended-none = refl
 
 -- ---- one line, and the last part
 
-cut-last : (p : List ℕ) → cut (p ∷ []) ≡ none
+cut-last : (p : List ℕ) → cut (p ∷ []) ≡ None
 unfolding cut
 cut-last p = refl
 
 abbrev both : List (List ℕ) → List (List ℕ) → Option Cut
-both x y = some (record { sheet = x; bars = y })
+both x y = Some (record { sheet = x; bars = y })
 
 cut_line : (p : List ℕ) (ps : List (List ℕ)) → 1 ≤ length ps → cut (p ∷ ps) ≡ cond (same p (45 ∷ [])) (both [] ps) (behind p (cut ps))
 unfolding cut bytes encoded
@@ -78,14 +78,14 @@ seeking_first s = record {
 }
 
 module _ {s : List ℕ} {at : ℕ} (k : Seeking s at) where
-  pub seeking_last : length s ≤ at → cut (split LF s) ≡ none
+  pub seeking_last : length s ≤ at → cut (split LF s) ≡ None
   seeking_last h = k.is ∙ rw (part_nil at (length s) s h, split-none, cut-last [])
 
   module _ {e : ℕ} (f : FirstAt s at (length s) LF e) where
     rest : Part s at (length s)
     rest = record { order = k.le; within = omega arith }
 
-    pub seeking_cut : e ≡ length s → cut (split LF s) ≡ none
+    pub seeking_cut : e ≡ length s → cut (split LF s) ≡ None
     seeking_cut h = k.is ∙ rw (split-last rest f h, cut-last (slice at (length s) s))
 
     module _ (m : e ≢ length s) where

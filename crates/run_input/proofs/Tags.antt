@@ -21,8 +21,12 @@ use Rattle.sheet.proofs.Fields.{Cut}
 use Rattle.position.specs.Feed.{Input}
 use Rattle.position.specs.Run.{bar_line, add_signal, input_line}
 use Rattle.run_input.specs.Lines.{line_do, bar_do, LineOk, BarOk, LineAs, BarAs}
+use Rattle.bar.specs.declared.BarNumbers.{BarNumbers}
 use Rattle.run_input.specs.declared.InputLine.{InputLine}
-use Rattle.run_input.specs.declared.InputLine.TheVariants.{Bar, Signal, Malformed, BadNumber}
+use Rattle.run_input.specs.declared.InputLine.TheVariants.{Bar, Signal}
+use Rattle.run_input.specs.declared.InputError.{InputError}
+use Rattle.run_input.specs.declared.InputError.TheVariants.{Malformed, BadNumber}
+use Rattle.std.specs.Prelude.{Option, None, Some, Result, Ok, Err}
 
 -- three fields are the line, joined
 joined_three : (b : ℕ) (f : List (List ℕ)) → length f ≡ 3 → joined (b ∷ []) f ≡ get_or f 0 [] ++ b ∷ (get_or f 1 [] ++ b ∷ get_or f 2 [])
@@ -34,17 +38,17 @@ joined_three b (p ∷ q ∷ r ∷ []) h = joined-more b p q (r ∷ []) ∙ ap (�
 joined_three b (p ∷ q ∷ r ∷ t ∷ ps) h = absurd (omega arith)
 
 -- a bar's line as a line
-bar_do_lem : (k l : List ℕ) (is : List Input) (r : InputLine) → BarOk k r → line_do l is r ≡ (bar_do r >>= λ i. Got (is ++ i ∷ []))
-bar_do_lem k l is (Bar b) h = refl
-bar_do_lem k l is Signal h = absurd h
-bar_do_lem k l is Malformed h = absurd h
-bar_do_lem k l is BadNumber h = refl
+abbrev as_read : Option BarNumbers → Result InputLine InputError
+as_read (Some b) = Ok (Bar b)
+as_read None = Err BadNumber
 
-bar-ok : (k l : List ℕ) → length k ≤ length l → (r : InputLine) → BarOk k r → LineOk l r
-bar-ok k l n (Bar b) h = (h.0, omega (arith, h.1))
-bar-ok k l n Signal h = absurd h
-bar-ok k l n Malformed h = tt
-bar-ok k l n BadNumber h = tt
+bar_do_lem : (l : List ℕ) (is : List Input) (r : Option BarNumbers) → line_do l is (as_read r) ≡ (bar_do r >>= λ i. Got (is ++ i ∷ []))
+bar_do_lem l is (Some b) = refl
+bar_do_lem l is None = refl
+
+bar-ok : (k l : List ℕ) → length k ≤ length l → (r : Option BarNumbers) → BarOk k r → LineOk l (as_read r)
+bar-ok k l n (Some b) h = (h.0, omega (arith, h.1))
+bar-ok k l n None h = tt
 
 module _ {s : List ℕ} {from to r : ℕ} (p : Part s from to) (f : FirstAt s from to pipe r) where
   abbrev line : List ℕ
@@ -58,7 +62,7 @@ module _ {s : List ℕ} {from to r : ℕ} (p : Part s from to) (f : FirstAt s fr
       ]
 
   module _ (is_b : same (slice from r s) (66 ∷ []) ≡ true) where
-    pub line-count : length (split pipe line) ≢ 5 → LineAs line Malformed
+    pub line-count : length (split pipe line) ≢ 5 → LineAs line (Err Malformed)
     unfolding input_line bar_line bytes encoded
     line-count n = record { is = λ is. rw (first, is_b, ne_eqb (length (split pipe line)) 5 n); ok = tt }
 
@@ -77,10 +81,10 @@ module _ {s : List ℕ} {from to r : ℕ} (p : Part s from to) (f : FirstAt s fr
       unfolding bytes encoded
       letter = refl
 
-      pub line-bar : {q : InputLine} → BarAs (slice (r + 1) to s) q → LineAs line q
+      pub line-bar : {q : Option BarNumbers} → BarAs (slice (r + 1) to s) q → LineAs line (as_read q)
       line-bar {q} b = record {
         is = λ is.
-            bar_do_lem (slice (r + 1) to s) line is q b.ok
+            bar_do_lem line is q
             ∙ ap (λ x. x >>= λ i. Got (is ++ i ∷ [])) (b.is ∙ ap (λ t. bar_line (t ∷ split pipe (slice (r + 1) to s))) letter ∙ ap bar_line tagged)
             ∙ as_line is;
         ok = bar-ok (slice (r + 1) to s) line (omega (arith, length-slice (r + 1) to s p.within, length-slice from to s p.within, f.low)) q b.ok;
@@ -88,7 +92,7 @@ module _ {s : List ℕ} {from to r : ℕ} (p : Part s from to) (f : FirstAt s fr
 
   module _ (no-b : same (slice from r s) (66 ∷ []) ≡ false) where
     module _ (is-s : same (slice from r s) (83 ∷ []) ≡ true) where
-      pub line-signal : length (split pipe line) ≡ 3 → LineAs line Signal
+      pub line-signal : length (split pipe line) ≡ 3 → LineAs line (Ok Signal)
       unfolding input_line bytes encoded
       line-signal three = record {
         is = λ is. rw (first, no-b, is-s, eq-eqb (length (split pipe line)) 3 three) (ap (λ l. add_signal (l ++ LF ∷ []) is) (ap (drop 2) shape));
@@ -103,10 +107,10 @@ module _ {s : List ℕ} {from to r : ℕ} (p : Part s from to) (f : FirstAt s fr
               sym (joined-split pipe line) ∙ joined_three pipe (split pipe line) three
               ∙ ap (λ t. t ++ pipe ∷ rest) (first ∙ same_eq (slice from r s) (83 ∷ []) is-s)
 
-      pub line-more : length (split pipe line) ≢ 3 → LineAs line Malformed
+      pub line-more : length (split pipe line) ≢ 3 → LineAs line (Err Malformed)
       unfolding input_line bytes encoded
       line-more n = record { is = λ is. rw (first, no-b, is-s, ne_eqb (length (split pipe line)) 3 n); ok = tt }
 
-    pub line_other : same (slice from r s) (83 ∷ []) ≡ false → LineAs line Malformed
+    pub line_other : same (slice from r s) (83 ∷ []) ≡ false → LineAs line (Err Malformed)
     unfolding input_line bytes encoded
     line_other no-s = record { is = λ is. rw (first, no-b, no-s); ok = tt }

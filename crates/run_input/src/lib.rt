@@ -8,38 +8,41 @@ ghost use Rattle.std.proofs.Math.Seq.{slice};
 ghost use Rattle.text.specs.Number.{signed_to, digits_to, plus};
 ghost use Rattle.text.specs.Read.{Part};
 ghost use Rattle.text.specs.Text.{pipe, split};
-ghost use Rattle.run_input.specs.Lines.{whole_of, CutAs, BarAs, LineAs};
+ghost use Rattle.run_input.specs.Lines.{input_refusal, CutAs, BarAs, LineAs};
 
 use bar::BarNumbers;
-use le::{Real, real_of};
+use le::real_of;
 use text::{LF, PIPE, count_parts, find, part_eq};
-use text_number::{Number, decimal, read_hex};
+use text_number::{decimal, read_hex};
 
-// Where the line `-` starts, or none.
-#[derive(Clone, Copy)]
-pub enum Dash {
-    At(usize),
-    Nowhere,
-}
-
-// A whole number that was read, or none.
-#[derive(Clone, Copy)]
-enum Whole {
-    Is(i64),
-    Bad,
-}
-
-// What a line says: a bar, one of its signals, or why it is refused.
+// What a line says: a bar, or one of its signals.
 #[derive(Clone, Copy)]
 pub enum InputLine {
     Bar(BarNumbers),
     Signal,
+}
+
+// Why the lines behind `-` are refused: one stands where it may not or lacks fields, or a field is no number.
+#[derive(Clone, Copy)]
+pub enum InputError {
     Malformed,
     BadNumber,
 }
 
+impl InputError {
+    // The number of the answer.
+    pub fn number(self) -> u32
+        ensures { result ≡ input_refusal self }
+    {
+        match self {
+            InputError::Malformed => 2,
+            InputError::BadNumber => 3,
+        }
+    }
+}
+
 // Where the first line `-` of s starts.
-pub fn find_dash(s: &[u8]) -> Dash
+pub fn find_dash(s: &[u8]) -> Option<usize>
     ensures { CutAs s.now result }
 {
     let n = s.len();
@@ -47,44 +50,38 @@ pub fn find_dash(s: &[u8]) -> Dash
     while at < n {
         let end = find(s, at, n, LF);
         if end == n {
-            return Dash::Nowhere;
+            return None;
         }
         if part_eq(s, at, end, b"-", 0, 1) {
-            return Dash::At(at);
+            return Some(at);
         }
         at = end + 1;
     }
-    Dash::Nowhere
+    None
 }
 
 // The number that 1 to n digits of s in from..to write.
-fn read_plain(s: &[u8], from: usize, to: usize, n: usize) -> Whole
+fn read_plain(s: &[u8], from: usize, to: usize, n: usize) -> Option<i64>
     requires part { Part s.now from to }
     requires n_bound { n ≤ 18 }
-    ensures { whole_of result ≡ plus (digits_to n (slice from to s.now)) }
+    ensures { result ≡ plus (digits_to n (slice from to s.now)) }
 {
-    let Number::Is(v) = decimal(s, from, to, n) else {
-        return Whole::Bad;
-    };
-    Whole::Is(v as i64)
+    Some(decimal(s, from, to, n)? as i64)
 }
 
 // The number that 1 to n digits of s in from..to write, perhaps behind `-`.
-fn read_signed(s: &[u8], from: usize, to: usize, n: usize) -> Whole
+fn read_signed(s: &[u8], from: usize, to: usize, n: usize) -> Option<i64>
     requires part { Part s.now from to }
     requires n_bound { n ≤ 18 }
-    ensures { whole_of result ≡ signed_to n (slice from to s.now) }
+    ensures { result ≡ signed_to n (slice from to s.now) }
 {
     if from == to {
-        return Whole::Bad;
+        return None;
     }
     if s[from] != b'-' {
         return read_plain(s, from, to, n);
     }
-    let Number::Is(v) = decimal(s, from + 1, to, n) else {
-        return Whole::Bad;
-    };
-    Whole::Is(0 - (v as i64))
+    Some(0 - (decimal(s, from + 1, to, n)? as i64))
 }
 
 // The double of 64 bits.
@@ -92,33 +89,25 @@ fn double_of(bits: u64) -> f64
     ensures { result ≡ of_bits binary64 bits }
 {
     match real_of(bits) {
-        Real::Value(x) => x,
-        Real::Nan => 0.0 / 0.0,
+        Some(x) => x,
+        None => 0.0 / 0.0,
     }
 }
 
-// The bar whose four fields s has in from..to, behind `B|`.
-pub fn read_bar(s: &[u8], from: usize, to: usize) -> InputLine
+// The bar whose four fields s has in from..to, behind `B|`, where each of them is a number.
+pub fn read_bar(s: &[u8], from: usize, to: usize) -> Option<BarNumbers>
     requires part { Part s.now from to }
     requires s_len { length (split pipe (slice from to s.now)) ≡ 4 }
     ensures { BarAs (slice from to s.now) result }
 {
     let a = find(s, from, to, PIPE);
-    let Whole::Is(id) = read_plain(s, from, a, 10) else {
-        return InputLine::BadNumber;
-    };
+    let id = read_plain(s, from, a, 10)?;
     let b = find(s, a + 1, to, PIPE);
-    let Whole::Is(instant) = read_plain(s, a + 1, b, 16) else {
-        return InputLine::BadNumber;
-    };
+    let instant = read_plain(s, a + 1, b, 16)?;
     let c = find(s, b + 1, to, PIPE);
-    let Whole::Is(offset) = read_signed(s, b + 1, c, 10) else {
-        return InputLine::BadNumber;
-    };
-    let Number::Is(bits) = read_hex(s, c + 1, to) else {
-        return InputLine::BadNumber;
-    };
-    InputLine::Bar(BarNumbers {
+    let offset = read_signed(s, b + 1, c, 10)?;
+    let bits = read_hex(s, c + 1, to)?;
+    Some(BarNumbers {
         id,
         instant,
         offset,
@@ -126,8 +115,8 @@ pub fn read_bar(s: &[u8], from: usize, to: usize) -> InputLine
     })
 }
 
-// What the line of s in from..to says.
-pub fn read_line(s: &[u8], from: usize, to: usize) -> InputLine
+// What the line of s in from..to says, or why it is refused.
+pub fn read_line(s: &[u8], from: usize, to: usize) -> Result<InputLine, InputError>
     requires { Part s.now from to }
     ensures { LineAs (slice from to s.now) result }
 {
@@ -135,14 +124,13 @@ pub fn read_line(s: &[u8], from: usize, to: usize) -> InputLine
     let fields = count_parts(s, from, to, PIPE);
     if part_eq(s, from, tag, b"B", 0, 1) {
         if fields != 5 {
-            return InputLine::Malformed;
+            return Err(InputError::Malformed);
         }
-        return read_bar(s, tag + 1, to);
+        let bar = read_bar(s, tag + 1, to).ok_or(InputError::BadNumber)?;
+        return Ok(InputLine::Bar(bar));
     }
-    if part_eq(s, from, tag, b"S", 0, 1) {
-        if fields == 3 {
-            return InputLine::Signal;
-        }
+    if part_eq(s, from, tag, b"S", 0, 1) && fields == 3 {
+        return Ok(InputLine::Signal);
     }
-    InputLine::Malformed
+    Err(InputError::Malformed)
 }

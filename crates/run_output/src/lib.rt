@@ -54,13 +54,11 @@ pub fn put_hold(out: &mut [u8], at: usize, o: HoldRow) -> usize
     requires hold_shown { HoldShown o }
     ensures { Put out.old out.new at (hold_line o) result }
 {
-    let local = o.local;
-    let n1b = o.n1b;
     let a = text_field(out, at, b"H", 0, 1);
-    let b = integer_field(out, a, local.micros());
+    let b = integer_field(out, a, o.local.micros());
     let c = integer_field(out, b, o.pos as i64);
     let d = real_field(out, c, o.price);
-    last_yield(out, d, n1b)
+    last_yield(out, d, o.n1b)
 }
 
 // The fields of a pair row up to the sequence's: both local times, both prices, the id difference.
@@ -70,10 +68,8 @@ fn pair_numbers(out: &mut [u8], at: usize, p: PairRow) -> usize
     requires t_2 { T (not (is_nan p.to)) }
     ensures { ShortPut 100 out.old out.new at (fields_text (integer_of p.opened.0 ∷ integer_of p.closed.0 ∷ hex_bits p.from ∷ hex_bits p.to ∷ integer_of p.ids ∷ [])) result }
 {
-    let opened = p.opened;
-    let closed = p.closed;
-    let a = integer_field(out, at, opened.micros());
-    let b = integer_field(out, a, closed.micros());
+    let a = integer_field(out, at, p.opened.micros());
+    let b = integer_field(out, a, p.closed.micros());
     let c = real_field(out, b, p.from);
     let d = real_field(out, c, p.to);
     integer_field(out, d, p.ids)
@@ -85,13 +81,11 @@ fn pair_names(out: &mut [u8], at: usize, p: PairRow, buffer: &[u8]) -> usize
     requires mark_in_bounds_2 { at + (p.symbol + p.mark) + 6 ≤ length out.old }
     ensures { ShortPut (p.symbol + p.mark + 6) out.old out.new at (fields_text (bytes "R" ∷ part buffer.now 0 p.symbol ∷ part buffer.now p.symbol p.mark ∷ side_text p.side ∷ [])) result }
 {
-    let side = p.side;
-    let symbol = p.symbol;
-    let mark = symbol + p.mark;
+    let mark = p.symbol + p.mark;
     let a = text_field(out, at, b"R", 0, 1);
-    let b = text_field(out, a, buffer, 0, symbol);
-    let c = text_field(out, b, buffer, symbol, mark);
-    let d = put_side(out, c, side);
+    let b = text_field(out, a, buffer, 0, p.symbol);
+    let c = text_field(out, b, buffer, p.symbol, mark);
+    let d = put_side(out, c, p.side);
     put_byte(out, d, PIPE)
 }
 
@@ -102,11 +96,9 @@ fn pair_figures(out: &mut [u8], at: usize, p: PairRow) -> usize
     requires yield_shown { YieldShown p.bp }
     ensures { Put out.old out.new at (line (hex_bits p.days ∷ yield_text p.bp ∷ decimal_of p.lots ∷ [])) result }
 {
-    let bp = p.bp;
-    let lots = p.lots as u64;
     let a = real_field(out, at, p.days);
-    let b = yield_field(out, a, bp);
-    last_decimal(out, b, lots)
+    let b = yield_field(out, a, p.bp);
+    last_decimal(out, b, p.lots as u64)
 }
 
 // `R|symbol|mark|side|opened|closed|from|to|ids|sequence|days|yield|lots`, with the texts of the row buffer.

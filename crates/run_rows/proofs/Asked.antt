@@ -4,12 +4,12 @@ use Prim.Native.Nat.{ℕ, zero, suc, ◌≤◌}
 use native.Mathlib.Omega.{arith}
 use mathlib.Core.Bool.{Bool, true, false, cond}
 use mathlib.Core.List.{List, [], ◌∷◌}
-use mathlib.Core.Option.{some}
+use Rattle.std.specs.Prelude.{Some, slice_get}
 use mathlib.Core.Path.{◌≡◌, sym, ap, subst, ◌∙◌}
 use mathlib.Mathlib.Data.List.Defs.{Forall}
 use mathlib.Mathlib.Data.List.Basic.{Forall-cons}
 use lib.IntN.{ℤ}
-use lib.ListN.{length, get_elem?, length-map}
+use lib.ListN.{length, length-map}
 use Rattle.text.specs.Answer.{given}
 use Rattle.sheet.specs.Sheet.{Sheet}
 use Rattle.table.proofs.Facts.{read_is}
@@ -39,7 +39,7 @@ pairs_few s (a ∷ b ∷ rs) = go (opens a) (pairs_few s (b ∷ rs))
     go true h = omega arith
     go false h = omega arith
 
-forall_at : {X : Type 0} (P : X → Type 0) (xs : List X) → Forall P xs → (i : ℕ) (x : X) → get_elem? xs i ≡ some x → P x
+forall_at : {X : Type 0} (P : X → Type 0) (xs : List X) → Forall P xs → (i : ℕ) (x : X) → slice_get xs i ≡ Some x → P x
 forall_at P [] h i x e = absurd (let z : ◌≡◌ {A = ℕ} 0 1 = cc in omega arith)
 forall_at P (y ∷ xs) h zero x e = let each = (Forall-cons P y xs).0 h in let is : y ≡ x = cc in subst P is each.0
 forall_at P (y ∷ xs) h (suc i) x e = let each = (Forall-cons P y xs).0 h in forall_at P xs each.1 i x e
@@ -83,8 +83,8 @@ module _ {table b : List ℕ} (k : Booked table b) where
   unfolding hold_rows
   holds-within = rw (holds-are, length-map) (omega (arith, k.book.room.holds, k.bars))
 
-  pub pair_shown : (i : ℕ) (p : Pair) → get_elem? (pair_rows table b) i ≡ some p → PairNumbers p
+  pub pair_shown : (i : ℕ) (p : Pair) → slice_get (pair_rows table b) i ≡ Some p → PairNumbers p
   pair_shown i p e = forall_at PairNumbers (pair_rows table b) (rw pairs_are (pairs_numbers s st.records k.book.sound.records)) i p e
 
-  pub hold_shown : (i : ℕ) (o : HoldRow) → get_elem? (hold_rows (holds_of b)) i ≡ some o → HoldNumbers o
+  pub hold_shown : (i : ℕ) (o : HoldRow) → slice_get (hold_rows (holds_of b)) i ≡ Some o → HoldNumbers o
   hold_shown i o e = forall_at HoldNumbers (hold_rows (holds_of b)) (rw holds-are (holds_numbers st.holds k.book.sound.holds)) i o e

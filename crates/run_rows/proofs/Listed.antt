@@ -4,17 +4,16 @@ use native.Mathlib.Omega.{arith}
 use native.Mathlib.Nat.{mul-le-mul_right}
 use native.Mathlib.Numerals.{add-one}
 use mathlib.Core.List.{List, [], ◌∷◌, ◌++◌, flat_map, append-nil, append_assoc}
-use mathlib.Core.Option.{none, some}
+use Rattle.std.specs.Prelude.{None, Some, Option, slice_get}
+use Rattle.std.proofs.lemmas.Option.{none-some, slice_get_within}
 use mathlib.Core.Path.{◌≡◌, sym, ap, subst}
-use lib.ListN.{length, take, get_elem?}
+use lib.ListN.{length, take}
 use lib.Seq.{take_all}
 use Rattle.text.specs.Read.{Put}
 use Rattle.text.proofs.Put.{put-none, put-put}
 use Rattle.position.specs.Run.{run_bars}
 use Rattle.run_fields.specs.Fields.{ShortPut}
 use Rattle.run_rows.specs.Rows.{RowAdded}
-use Rattle.run_rows.specs.declared.Added.{Added}
-use Rattle.run_rows.specs.declared.Added.TheVariants.{Next, NoRow}
 
 -- the first i rows were printed from `from` on, each in at most n bytes
 pub record Listed {X : Type 0} (rows : List X) (text : X → List ℕ) (n : ℕ) (before after : List ℕ) (from i at : ℕ) : Type 0 where
@@ -24,19 +23,14 @@ pub record Listed {X : Type 0} (rows : List X) (text : X → List ℕ) (n : ℕ)
 
 -- ---- one row
 
--- a row that is there, and one past the last
-found_below : {X : Type 0} (rows : List X) (i : ℕ) (x : X) → get_elem? rows i ≡ some x → i < length rows
-found_below [] i x e = absurd (let z : ◌≡◌ {A = ℕ} 0 1 = cc in omega arith)
-found_below (y ∷ rows) zero x e = omega arith
-found_below (y ∷ rows) (suc i) x e = omega (arith, found_below rows i x e)
-
-none_above : {X : Type 0} (rows : List X) (i : ℕ) → get_elem? rows i ≡ none → length rows ≤ i
+-- one past the last
+none_above : {X : Type 0} (rows : List X) (i : ℕ) → slice_get rows i ≡ None → length rows ≤ i
 none_above [] i e = omega arith
-none_above (y ∷ rows) zero e = absurd (let z : ◌≡◌ {A = ℕ} 0 1 = cc in omega arith)
+none_above (y ∷ rows) zero e = absurd (none-some y (sym e))
 none_above (y ∷ rows) (suc i) e = omega (arith, none_above rows i e)
 
-take_next : {X : Type 0} (rows : List X) (i : ℕ) (x : X) → get_elem? rows i ≡ some x → take (suc i) rows ≡ take i rows ++ x ∷ []
-take_next [] i x e = absurd (let z : ◌≡◌ {A = ℕ} 0 1 = cc in omega arith)
+take_next : {X : Type 0} (rows : List X) (i : ℕ) (x : X) → slice_get rows i ≡ Some x → take (suc i) rows ≡ take i rows ++ x ∷ []
+take_next [] i x e = absurd (none-some x e)
 take_next (y ∷ rows) zero x e = cc
 take_next (y ∷ rows) (suc i) x e = ap (λ (l : List _). y ∷ l) (take_next rows i x e)
 
@@ -47,7 +41,7 @@ lines_more text (y ∷ xs) x = rw (lines_more text xs x) (sym (append_assoc (tex
 
 module _ {X : Type 0} {rows : List X} {text : X → List ℕ} {n : ℕ} {before after : List ℕ} {from i at : ℕ} where
   -- one row more
-  pub listed_more : Listed rows text n before after from i at → (x : X) (next : List ℕ) (r : ℕ) → get_elem? rows i ≡ some x → ShortPut n after next at (text x) r
+  pub listed_more : Listed rows text n before after from i at → (x : X) (next : List ℕ) (r : ℕ) → slice_get rows i ≡ Some x → ShortPut n after next at (text x) r
       → Listed rows text n before next from (i + 1) r
   listed_more l x next r e p =
       let few = l.few in
@@ -55,11 +49,11 @@ module _ {X : Type 0} {rows : List X} {text : X → List ℕ} {n : ℕ} {before 
       record {
         put = rw (add-one i, take_next rows i x e, lines_more text (take i rows) x) (put-put l.put p.put);
         few = omega arith;
-        count = omega (arith, found_below rows i x e);
+        count = omega (arith, slice_get_within rows i x e);
       }
 
   -- no row is left
-  pub listed_all : Listed rows text n before after from i at → get_elem? rows i ≡ none → (most : ℕ) → length rows ≤ most → ShortPut (most * n) before after from (flat_map text rows) at
+  pub listed_all : Listed rows text n before after from i at → slice_get rows i ≡ None → (most : ℕ) → length rows ≤ most → ShortPut (most * n) before after from (flat_map text rows) at
   listed_all l e most h =
       let few = l.few in
       let count = l.count in
@@ -85,8 +79,8 @@ module _ {X : Type 0} {rows : List X} {text : X → List ℕ} {n : ℕ} {before 
       let all : i * n ≤ run_bars * n = mul-le-mul_right n (omega arith) in
       (omega arith, omega arith)
 
-  pub listed_next : (a : Added) {next : List ℕ} {r : ℕ} → RowAdded rows text n i after next at a → a ≡ Next r → Listed rows text n before next from (i + 1) r
+  pub listed_next : (a : Option ℕ) {next : List ℕ} {r : ℕ} → RowAdded rows text n i after next at a → a ≡ Some r → Listed rows text n before next from (i + 1) r
   listed_next a {next} {r} e is = let row = subst (RowAdded rows text n i after next at) is e in listed_more l row.0 next r row.1 row.2
 
-  pub listed_last : (a : Added) {next : List ℕ} → RowAdded rows text n i after next at a → a ≡ NoRow → (most : ℕ) → length rows ≤ most → ShortPut (most * n) before next from (flat_map text rows) at
-  listed_last a {next} e is most h = let none = subst (RowAdded rows text n i after next at) is e in rw none.1 (listed_all l none.0 most h)
+  pub listed_last : (a : Option ℕ) {next : List ℕ} → RowAdded rows text n i after next at a → a ≡ None → (most : ℕ) → length rows ≤ most → ShortPut (most * n) before next from (flat_map text rows) at
+  listed_last a {next} e is most h = let None = subst (RowAdded rows text n i after next at) is e in rw None.1 (listed_all l None.0 most h)

@@ -1,8 +1,6 @@
 -- What all rows of a book print, and what is known of a book whose rows are printed. Assumes nothing.
-use Rattle.std.specs.Prelude.{ℕ, ◌≡◌}
+use Rattle.std.specs.Prelude.{ℕ, ◌≡◌, None, Some, Option, slice_get}
 use mathlib.Core.List.{List, flat_map}
-use Rattle.std.proofs.Math.Option.{none, some}
-use Rattle.std.proofs.Math.ListN.{get_elem?}
 use Rattle.text.specs.Answer.{Got}
 use Rattle.sheet.specs.Sheet.{Sheet}
 use Rattle.table.specs.Layout.{parts_in}
@@ -14,8 +12,6 @@ use Rattle.book.specs.Layout.{records_of, holds_of}
 use Rattle.history.proofs.Invariant.{BookOf}
 use Rattle.run_fields.specs.Fields.{ShortPut}
 use Rattle.run_output.specs.Shown.{pair_room, hold_room}
-use Rattle.run_rows.specs.declared.Added.{Added}
-use Rattle.run_rows.specs.declared.Added.TheVariants.{Next, NoRow}
 
 -- the book of a state that bars can reach, with room for 900 of them, and the table of its sheet
 pub record Booked (table b : List ℕ) : Type 0 where
@@ -41,12 +37,12 @@ hold_lines b = flat_map hold_line (hold_rows (holds_of b))
 -- ---- printed one behind another
 
 -- row number i was printed, or there is none
-abbrev pub RowAdded : {X : Type 0} → List X → (X → List ℕ) → ℕ → ℕ → List ℕ → List ℕ → ℕ → Added → Type 0
-RowAdded {X} rows text n i before after at (Next r) = (x : X) × (get_elem? rows i ≡ some x) × ShortPut n before after at (text x) r
-RowAdded rows text n i before after at NoRow = (get_elem? rows i ≡ none) × (after ≡ before)
+abbrev pub RowAdded : {X : Type 0} → List X → (X → List ℕ) → ℕ → ℕ → List ℕ → List ℕ → ℕ → Option ℕ → Type 0
+RowAdded {X} rows text n i before after at (Some r) = (x : X) × (slice_get rows i ≡ Some x) × ShortPut n before after at (text x) r
+RowAdded rows text n i before after at None = (slice_get rows i ≡ None) × (after ≡ before)
 
-abbrev pub PairAdded : List ℕ → List ℕ → ℕ → List ℕ → List ℕ → ℕ → Added → Type 0
+abbrev pub PairAdded : List ℕ → List ℕ → ℕ → List ℕ → List ℕ → ℕ → Option ℕ → Type 0
 PairAdded table b i before after at r = RowAdded (pair_rows table b) pair_line pair_room i before after at r
 
-abbrev pub HoldAdded : List ℕ → List ℕ → ℕ → List ℕ → List ℕ → ℕ → Added → Type 0
+abbrev pub HoldAdded : List ℕ → List ℕ → ℕ → List ℕ → List ℕ → ℕ → Option ℕ → Type 0
 HoldAdded table b i before after at r = RowAdded (hold_rows (holds_of b)) hold_line hold_room i before after at r

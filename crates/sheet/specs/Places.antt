@@ -1,17 +1,17 @@
 -- What the code keeps of a sheet that it read: places in its text and numbers; and the sheet that these mean. Assumes nothing.
-use Rattle.std.specs.Prelude.{ℕ, zero, suc, ◌+◌, ◌*◌, ◌<◌, ◌≤◌, ◌≡◌, true, cond, List, [], ◌∷◌, ltb, eqb, length, get_or, take, drop}
+use Rattle.sheet.specs.declared.SheetError.{SheetError}
+use Rattle.sheet.specs.declared.SheetError.TheVariants as SheetError
+use Rattle.std.specs.Prelude.{ℕ, zero, suc, ◌+◌, ◌*◌, ◌<◌, ◌≤◌, ◌≡◌, true, cond, List, [], ◌∷◌, ltb, eqb, length, get_or, take, drop, Result, Ok, Err}
 use Rattle.std.proofs.Math.Seq.{slice}
 use Rattle.list.specs.Numbered.{rows}
 use Rattle.le.specs.Le.{part}
 use Rattle.text.specs.Answer.{Answer, Refused, Got}
 use Rattle.text.specs.Text.{split, pipe}
-use Rattle.signal.specs.Read.{SignalOk, signal_in}
+use Rattle.signal.specs.Read.{SignalOk, signal_in, signal_refusal}
 use Rattle.signal.specs.declared.SignalAt.{SignalAt}
 use Rattle.sheet.specs.Sheet.{kind_of, exit_in, lots_in, Clause, Event, Sheet, event_limit, clause_limit, name_limit, interval_limit, timeout_limit, stop_limit, t0_limit, evening_limit, lots_ok}
 use Rattle.sheet.specs.Read.{read_sheet}
 use Rattle.sheet.specs.declared.SheetAt.{SheetAt}
-use Rattle.sheet.specs.declared.SheetRead.{SheetRead}
-use Rattle.sheet.specs.declared.SheetRead.TheVariants.{Is, PastLimit, NotUtf8, Malformed, BadNumber, UnknownOperate, NotSeven, BadScore, BadLots}
 
 -- the fields of s in from..to
 abbrev pub fields_of : List ℕ → ℕ → ℕ → List (List ℕ)
@@ -119,33 +119,28 @@ pub record SheetOk (s es cs : List ℕ) (a : SheetAt) : Type 0 where
 -- ---- the answers
 
 -- the number and the sheet of each answer
-abbrev pub read_of : List ℕ → List ℕ → List ℕ → SheetRead → Answer Sheet
-read_of s es cs (Is a) = Got (sheet_at s es cs a)
-read_of s es cs PastLimit = Refused 7
-read_of s es cs NotUtf8 = Refused 1
-read_of s es cs Malformed = Refused 2
-read_of s es cs BadNumber = Refused 3
-read_of s es cs UnknownOperate = Refused 4
-read_of s es cs NotSeven = Refused 5
-read_of s es cs BadScore = Refused 6
-read_of s es cs BadLots = Refused 18
+abbrev pub sheet_refusal : SheetError → ℕ
+sheet_refusal SheetError.PastLimit = 7
+sheet_refusal SheetError.NotUtf8 = 1
+sheet_refusal SheetError.Malformed = 2
+sheet_refusal SheetError.BadNumber = 3
+sheet_refusal SheetError.UnknownOperate = 4
+sheet_refusal (SheetError.Signal e) = signal_refusal e
+sheet_refusal SheetError.BadLots = 18
 
-abbrev pub ReadOk : List ℕ → List ℕ → List ℕ → SheetRead → Type 0
-ReadOk s es cs (Is a) = SheetOk s es cs a
-ReadOk s es cs PastLimit = Unit {0}
-ReadOk s es cs NotUtf8 = Unit {0}
-ReadOk s es cs Malformed = Unit {0}
-ReadOk s es cs BadNumber = Unit {0}
-ReadOk s es cs UnknownOperate = Unit {0}
-ReadOk s es cs NotSeven = Unit {0}
-ReadOk s es cs BadScore = Unit {0}
-ReadOk s es cs BadLots = Unit {0}
+abbrev pub read_of : List ℕ → List ℕ → List ℕ → Result SheetAt SheetError → Answer Sheet
+read_of s es cs (Ok a) = Got (sheet_at s es cs a)
+read_of s es cs (Err e) = Refused (sheet_refusal e)
+
+abbrev pub ReadOk : List ℕ → List ℕ → List ℕ → Result SheetAt SheetError → Type 0
+ReadOk s es cs (Ok a) = SheetOk s es cs a
+ReadOk s es cs (Err e) = Unit {0}
 
 -- r is the answer x, with es and cs as they are at exit
-pub record SheetIs (s es cs : List ℕ) (x : Answer Sheet) (r : SheetRead) : Type 0 where
+pub record SheetIs (s es cs : List ℕ) (x : Answer Sheet) (r : Result SheetAt SheetError) : Type 0 where
   pub is : read_of s es cs r ≡ x
   pub ok : ReadOk s es cs r
 
 -- r is what s says
-abbrev pub SheetAs : List ℕ → List ℕ → List ℕ → SheetRead → Type 0
+abbrev pub SheetAs : List ℕ → List ℕ → List ℕ → Result SheetAt SheetError → Type 0
 SheetAs s es cs r = SheetIs s es cs (read_sheet s) r

@@ -1,6 +1,5 @@
 -- Reading a position sheet. "Compiling checks 8, text length, 1, then each line: 2, fields left to right, count." Here all but 8. Assumes nothing.
-use Rattle.std.specs.Prelude.{ℕ, Bool, true, false, not, cond, ◌&&◌, ◌||◌, List, [], ◌∷◌, ◌++◌, leb, ltb, eqb, length, get_or, drop}
-use Rattle.std.proofs.Math.Option.{Option, none, some}
+use Rattle.std.specs.Prelude.{ℕ, Bool, true, false, not, cond, ◌&&◌, ◌||◌, List, [], ◌∷◌, ◌++◌, leb, ltb, eqb, length, get_or, drop, Option, None, Some}
 use Rattle.text.specs.Answer.{Answer, Refused, Got, ◌>>=◌, must, given}
 use Rattle.text.specs.Literal.{bytes}
 use Rattle.text.specs.Text.{same, split, each_line, LF}
@@ -18,7 +17,7 @@ name s = must 7 (leb (length s) name_limit) >>= λ _. Got s
 
 -- "A P line may carry a seventh value, 0 to 1,439 minutes ..; without it the value is 0": of the fields behind t0
 abbrev pub minutes_in : List (List ℕ) → Option ℕ
-minutes_in [] = some 0
+minutes_in [] = Some 0
 minutes_in (field ∷ _) = at_most evening_limit (digits_to 10 field)
 
 -- "first `P|name|symbol|interval|timeout|stop|t0`", or with a seventh value; "The stop field may now have one or two decimals after a point"
@@ -91,12 +90,12 @@ later_line s f =
 
 -- the first line, and each later one
 abbrev pub sheet_line : Option Sheet → List (List ℕ) → Answer (Option Sheet)
-sheet_line none f = position_line f >>= λ s. Got (some s)
-sheet_line (some s) f = later_line s f >>= λ t. Got (some t)
+sheet_line None f = position_line f >>= λ s. Got (Some s)
+sheet_line (Some s) f = later_line s f >>= λ t. Got (Some t)
 
 -- "text length, 1, then each line"; "an empty sheet gives 2"
 unfoldable pub read_sheet : List ℕ → Answer Sheet
 read_sheet s = do
   _ ← text s
-  sheet ← each_line sheet_line none (split LF s)
+  sheet ← each_line sheet_line None (split LF s)
   given 2 sheet

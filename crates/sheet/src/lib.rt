@@ -1,9 +1,14 @@
-// Definitions only: what a position sheet says, its limits, and what the code keeps of one that it read.
+// Definitions: what a position sheet says, its limits, why a text is none, and what the code keeps of one that it read.
 //
 // What is kept are numbers: places in the text, six numbers for each event and nine for each clause.
+#![tactic(auto)]
+
+ghost use Rattle.std.specs.Prelude.{◌≡◌};
+ghost use Rattle.sheet.specs.declared.SheetError.TheVariants as SheetError;
+
+use signal::SignalError;
 
 // The most events and clauses of a sheet.
-#![tactic(auto)]
 
 pub const EVENT_LIMIT: usize = 32;
 
@@ -47,16 +52,22 @@ pub struct SheetAt {
     pub clauses: usize,
 }
 
-// What a text says as a sheet, or why it is refused.
+// Why a text is no sheet.
 #[derive(Clone, Copy)]
-pub enum SheetRead {
-    Is(SheetAt),
+pub enum SheetError {
     PastLimit,
     NotUtf8,
     Malformed,
     BadNumber,
     UnknownOperate,
-    NotSeven,
-    BadScore,
+    Signal(SignalError),
     BadLots,
+}
+
+impl From<SignalError> for SheetError {
+    ghost from_gives = { λ e r. r ≡ SheetError.Signal e };
+
+    fn from(e: SignalError) -> SheetError {
+        SheetError::Signal(e)
+    }
 }

@@ -1,4 +1,7 @@
 -- What a clause line says, by its field and by the signal that was read. Assumes nothing.
+use Rattle.sheet.specs.declared.SheetError.TheVariants as SheetError
+use Rattle.signal.specs.declared.SignalError.{SignalError}
+use Rattle.std.specs.Prelude.{Ok, Err}
 use Prim.Native.Nat.{ℕ, suc, ◌+◌, ◌-◌, ◌*◌, ◌<◌, ◌≤◌}
 use native.Mathlib.Omega.{arith}
 use mathlib.Core.Path.{◌≡◌, ◌∙◌, sym, ap}
@@ -17,18 +20,23 @@ use Rattle.text.proofs.Laws.{part-size}
 use Rattle.text.proofs.Parts.{split_some, split-next, split-last}
 use Rattle.utf8.specs.Alone.{text_limit}
 use Rattle.signal.specs.Signal.{signal_of}
-use Rattle.signal.specs.Read.{SignalOk, signal_in, ReadAs}
+use Rattle.signal.specs.Read.{SignalOk, signal_in, signal_refusal, ReadAs}
 use Rattle.signal.specs.declared.SignalAt.{SignalAt}
-use Rattle.signal.specs.declared.SignalRead.TheVariants.{Is as Signal-as-Is, NotSeven as Signal-as-NotSeven, BadScore as Signal-as-BadScore}
 use Rattle.sheet.specs.Sheet.{clause_limit}
 use Rattle.sheet.specs.Read.{clause_line}
 use Rattle.sheet.specs.Places.{fields_of, event_number, SheetOk}
 use Rattle.sheet.specs.declared.SheetAt.{SheetAt}
-use Rattle.sheet.specs.declared.SheetRead.TheVariants.{Is, PastLimit, Malformed, NotSeven, BadScore}
 use Rattle.sheet_numbers.specs.Counted.{counted, Narrow}
 use Rattle.sheet_numbers.proofs.Counts.{event_total, clause_total, span_within}
 use Rattle.sheet_numbers.proofs.MoreClauses.{clause-added, clause-ok, ClauseNumbers}
-use Rattle.sheet_clause.specs.Line.{ClauseLineAs}
+use Rattle.sheet_clause.specs.declared.ClauseKind.{ClauseKind}
+use Rattle.sheet_clause.specs.declared.ClauseKind.TheVariants.{All, Any, Not}
+use Rattle.sheet_clause.specs.Line.{kind_number, ClauseLineAs}
+
+pub kind_low : (k : ClauseKind) → kind_number k ≤ 2
+kind_low All = omega arith
+kind_low Any = omega arith
+kind_low Not = omega arith
 
 -- ---- a signal in the front of a text
 
@@ -72,7 +80,7 @@ count_room ok room i h = (omega (arith, ok.few), omega (arith, span_within ok i 
 -- ---- the line
 
 module _ {s es cs : List ℕ} {a : SheetAt} (ok : SheetOk s es cs a) {from to : ℕ} (p : Part s from to) (kind : ℕ) {c : ℕ} (f : FirstAt s from to pipe c) where
-  pub two_fields : c ≢ to → ClauseLineAs s from to kind a es cs es cs Malformed
+  pub two_fields : c ≢ to → ClauseLineAs s from to kind a es cs es cs (Err SheetError.Malformed)
   unfolding clause_line
   two_fields n = record { is = rw (ne_eqb (suc (length (fields_of s from to))) 2 (omega (arith, ap length (split-next p f (omega (arith, f.high))), split_some pipe (slice (c + 1) to s)))); ok = tt }
 
@@ -80,7 +88,7 @@ module _ {s es cs : List ℕ} {a : SheetAt} (ok : SheetOk s es cs a) {from to : 
     one : fields_of s from to ≡ slice from to s ∷ []
     one = split-last p f n
 
-    pub no_event_lem : a.events ≡ 0 → ClauseLineAs s from to kind a es cs es cs Malformed
+    pub no_event_lem : a.events ≡ 0 → ClauseLineAs s from to kind a es cs es cs (Err SheetError.Malformed)
     unfolding clause_line
     no_event_lem h = record { is = rw (one, event_total ok, h); ok = tt }
 
@@ -91,19 +99,17 @@ module _ {s es cs : List ℕ} {a : SheetAt} (ok : SheetOk s es cs a) {from to : 
       whole : take (to - from) (drop from s) ≡ slice from to s
       whole = part-size from to s p.order
 
-      pub not_seven : ReadAs (take (to - from) (drop from s)) Signal-as-NotSeven → ClauseLineAs s from to kind a es cs es cs NotSeven
+      pub no_signal : {e : SignalError} → ReadAs (take (to - from) (drop from s)) (Err e) → ClauseLineAs s from to kind a es cs es cs (Err (SheetError.Signal e))
       unfolding clause_line
-      not_seven r = let e : Refused 5 ≡ signal_of (slice from to s) = r.is ∙ ap signal_of whole in record { is = rw (one, event_total ok, behind, ← e); ok = tt }
+      no_signal {e} r =
+          let q : Refused (signal_refusal e) ≡ signal_of (slice from to s) = r.is ∙ ap signal_of whole in
+          record { is = rw (one, event_total ok, behind, ← q); ok = tt }
 
-      pub bad_score : ReadAs (take (to - from) (drop from s)) Signal-as-BadScore → ClauseLineAs s from to kind a es cs es cs BadScore
-      unfolding clause_line
-      bad_score r = let e : Refused 6 ≡ signal_of (slice from to s) = r.is ∙ ap signal_of whole in record { is = rw (one, event_total ok, behind, ← e); ok = tt }
-
-      module _ {g : SignalAt} (r : ReadAs (take (to - from) (drop from s)) (Signal-as-Is g)) where
+      module _ {g : SignalAt} (r : ReadAs (take (to - from) (drop from s)) (Ok g)) where
         signal-is : Got (signal_in (drop from s) g) ≡ signal_of (slice from to s)
         signal-is = ap Got (sym (signal_front (to - from) (drop from s) r.ok)) ∙ r.is ∙ ap signal_of whole
 
-        pub no_room : clause_limit ≤ a.clauses → ClauseLineAs s from to kind a es cs es cs PastLimit
+        pub no_room : clause_limit ≤ a.clauses → ClauseLineAs s from to kind a es cs es cs (Err SheetError.PastLimit)
         unfolding clause_line
         no_room h = record { is = rw (one, event_total ok, behind, ← signal-is, clause_total ok, le-ltb a.clauses 256 h); ok = tt }
 
@@ -111,7 +117,7 @@ module _ {s es cs : List ℕ} {a : SheetAt} (ok : SheetOk s es cs a) {from to : 
         pub clause-is : {fs ds : List ℕ} {q : SheetAt} → length es ≡ 192 → length cs ≡ 2304 → a.clauses < clause_limit → kind ≤ 2
             → fs ≡ patch es (6 * (a.events - 1) + 5) ((event_number es (a.events - 1) 5 + 1) ∷ [])
             → ds ≡ patch cs (9 * a.clauses) (kind ∷ from ∷ g.k1 ∷ g.k2 ∷ g.k3 ∷ g.v1 ∷ g.v2 ∷ g.v3 ∷ g.score ∷ [])
-            → q ≡ counted a a.events (a.clauses + 1) → ClauseLineAs s from to kind a es cs fs ds (Is q)
+            → q ≡ counted a a.events (a.clauses + 1) → ClauseLineAs s from to kind a es cs fs ds (Ok q)
         unfolding clause_line
         clause-is events-room room free low u v w =
             let e : ClauseNumbers s es cs a (a.events - 1) kind from g = record {

@@ -2,17 +2,16 @@
 use Prim.Native.Nat.{ℕ, suc, ◌+◌, ◌-◌, ◌*◌, ◌%◌, ◌<◌, ◌≤◌}
 use native.Mathlib.Omega.{arith}
 use mathlib.Core.Path.{◌≡◌, ◌∙◌, refl, sym, ap}
-use mathlib.Core.Logic.{◌≢◌}
 use mathlib.Core.Bool.{Bool, true, false, not, ◌&&◌, ◌||◌, false≢true}
 use mathlib.Core.List.{List, [], ◌∷◌}
-use mathlib.Core.Option.{none, some}
-use borrow.Author.Tests.{eq-eqb, ne_eqb, eqb-true, eqb-false, le-leb, lt-leb, lt-ltb, le-ltb}
+use Rattle.sheet.specs.declared.SheetError.{SheetError}
+use Rattle.std.specs.Prelude.{Ok, Err}
+use borrow.Author.Tests.{ne_eqb, eqb-true, le-leb, lt-leb, lt-ltb, le-ltb}
 use lib.Dec.{leb, eqb}
-use lib.ListN.{length}
+use lib.ListN.{length, take, drop}
 use lib.Seq.{slice, length-slice}
 use Rattle.le.specs.Le.{part, patch}
 use Rattle.text.specs.Answer.{Refused, Got}
-use Rattle.text.specs.Number.{digits_to}
 use Rattle.text.specs.Text.{pipe}
 use Rattle.text.specs.Read.{Part, FirstAt}
 use Rattle.text.proofs.Laws.{part-size}
@@ -23,15 +22,19 @@ use Rattle.operate.specs.declared.Operate.{Operate}
 use Rattle.operate.specs.declared.Operate.TheVariants.{HL, HS, HO, LO, LE, SO, SE}
 use Rattle.sheet.specs.Sheet.{event_limit, name_limit, lots_limit, exit_in, lots_in}
 use Rattle.sheet.specs.Read.{lots_behind, event_fields, event_line}
-use Rattle.sheet.specs.Places.{fields_of, behind}
+use Rattle.sheet.specs.Places.{fields_of, behind, sheet_refusal}
 use Rattle.sheet.specs.declared.SheetAt.{SheetAt}
-use Rattle.sheet.specs.declared.SheetRead.TheVariants.{Is, PastLimit, Malformed, BadNumber, UnknownOperate, BadLots}
 use Rattle.sheet.proofs.Fields.{Field, field, last_two}
 use Rattle.sheet_numbers.specs.Counted.{counted, in_place}
 use Rattle.sheet_numbers.proofs.Counts.{event_total, exit-last}
 use Rattle.sheet_numbers.proofs.MoreEvents.{event_added, event_ok_lem, EventNumbers}
-use Rattle.sheet_event.specs.Line.{LotsIs, Told, EventLineAs}
-use Rattle.sheet_event.specs.declared.Lots.TheVariants.{Are, NoNumber, Outside}
+use Rattle.sheet_event.specs.declared.EventKind.{EventKind}
+use Rattle.sheet_event.specs.declared.EventKind.TheVariants.{Opening, Exit}
+use Rattle.sheet_event.specs.Line.{kind_number, Told, EventLineAs}
+
+pub kind_low : (k : EventKind) → kind_number k ≤ 1
+kind_low Opening = omega arith
+kind_low Exit = omega arith
 
 pub code_low : (o : Operate) → code_of o ≤ 6
 code_low HL = omega arith
@@ -42,24 +45,8 @@ code_low LE = omega arith
 code_low SO = omega arith
 code_low SE = omega arith
 
--- ---- how many fields
+-- ---- how many fields: two or three
 
-module _ (kind n : ℕ) where
-  pub two_fit : n ≡ 2 → true ≡ event_fields (exit_in kind) (suc n)
-  two_fit e = rw (eq-eqb (suc n) 3 (omega arith))
-
-  module _ (h : n ≢ 2) where
-    pub exit_fits_not : kind % 2 ≡ 1 → false ≡ event_fields (exit_in kind) (suc n)
-    exit_fits_not e = rw (ne_eqb (suc n) 3 (omega arith), eq-eqb (kind % 2) 1 e)
-
-    pub third_fits : kind % 2 ≢ 1 → eqb n 3 ≡ event_fields (exit_in kind) (suc n)
-    third_fits e = rw (ne_eqb (suc n) 3 (omega arith), ne_eqb (kind % 2) 1 e) (go (eqb n 3) refl)
-      where
-        go : (t : Bool) → eqb n 3 ≡ t → eqb n 3 ≡ eqb (suc n) 4
-        go true p = p ∙ sym (eq-eqb (suc n) 4 (omega (arith, eqb-true n 3 p)))
-        go false p = p ∙ sym (ne_eqb (suc n) 4 (omega (arith, eqb-false n 3 p)))
-
--- two or three
 few : (exit : Bool) (n : ℕ) → event_fields exit (suc n) ≡ true → (2 ≤ n) × (n ≤ 3)
 few exit n h = go (eqb (suc n) 3) refl (eqb (suc n) 4) refl exit h
   where
@@ -69,31 +56,7 @@ few exit n h = go (eqb (suc n) 3) refl (eqb (suc n) 4) refl exit h
     go false p false q true r = absurd (false≢true r)
     go false p false q false r = absurd (false≢true r)
 
--- ---- the lots
-
-module _ {s : List ℕ} {at to : ℕ} (p : Part s at to) where
-  pub lots-none : at ≡ to → LotsIs (lots_behind (behind s at to)) (Are 1)
-  lots-none e = record { is = rw (le-ltb at to (omega arith)); ok = (omega arith, omega arith) }
-
-  module _ (more : at ≢ to) where
-    goes_on : at < to
-    goes_on = omega (arith, p.order)
-
-    pub lots_no_number : none ≡ digits_to 10 (slice (at + 1) to s) → LotsIs (lots_behind (behind s at to)) NoNumber
-    lots_no_number e = record { is = rw (lt-ltb at to goes_on, ← e); ok = tt }
-
-    module _ {n : ℕ} (e : some n ≡ digits_to 10 (slice (at + 1) to s)) where
-      pub lots-low : n < 1 → LotsIs (lots_behind (behind s at to)) Outside
-      lots-low h = record { is = rw (lt-ltb at to goes_on, ← e, lt-leb 1 n h); ok = tt }
-
-      module _ (low : 1 ≤ n) where
-        pub lots-high : lots_limit < n → LotsIs (lots_behind (behind s at to)) Outside
-        lots-high h = record { is = rw (lt-ltb at to goes_on, ← e, le-leb 1 n low, lt-leb n 1000 h); ok = tt }
-
-        pub lots-are : n ≤ lots_limit → LotsIs (lots_behind (behind s at to)) (Are n)
-        lots-are h = record { is = rw (lt-ltb at to goes_on, ← e, le-leb 1 n low, le-leb n 1000 h); ok = (low, h) }
-
--- an exit has no field behind its name
+-- ---- the lots: an exit has no field behind its name
 exit-one : (x : Bool) (more : List (List ℕ)) {lots : ℕ} → event_fields x (suc (suc (suc (length more)))) ≡ true → x ≡ true → Got lots ≡ lots_behind more → lots ≡ 1
 exit-one true [] h e l = cc
 exit-one true (f ∷ fs) h e l = absurd (false≢true (rw (ne_eqb (suc (suc (suc (suc (length fs))))) 3 (omega arith)) at h))
@@ -101,13 +64,20 @@ exit-one false more h e l = absurd (false≢true e)
 
 -- ---- how the line starts
 
-module _ {s : List ℕ} {from to : ℕ} (p : Part s from to) (kind : ℕ) (a : SheetAt) (es : List ℕ) where
-  pub wrong_count : event_fields (exit_in kind) (suc (length (fields_of s from to))) ≡ false → EventLineAs s from to kind a es es Malformed
-  unfolding event_line
-  wrong_count h cs ok = record { is = rw h; ok = tt }
+module _ {s : List ℕ} {from to : ℕ} (p : Part s from to) (kind : ℕ) (a : SheetAt) (es : List ℕ) {n : ℕ} (counts : n ≡ length (fields_of s from to)) {t : Bool}
+    (tests : t ≡ event_fields (exit_in kind) (suc n)) where
+  tested : t ≡ event_fields (exit_in kind) (suc (length (fields_of s from to)))
+  tested = tests ∙ ap (λ n. event_fields (exit_in kind) (suc n)) counts
 
-  module _ (count : event_fields (exit_in kind) (suc (length (fields_of s from to))) ≡ true) where
-    pub misplaced : in_place es a.events kind ≡ false → EventLineAs s from to kind a es es Malformed
+  pub wrong_count : t ≡ false → EventLineAs s from to kind a es es (Err SheetError.Malformed)
+  unfolding event_line
+  wrong_count e cs ok = record { is = rw (← tested, e); ok = tt }
+
+  module _ (yes : t ≡ true) where
+    count : event_fields (exit_in kind) (suc (length (fields_of s from to))) ≡ true
+    count = sym tested ∙ yes
+
+    pub misplaced : in_place es a.events kind ≡ false → EventLineAs s from to kind a es es (Err SheetError.Malformed)
     unfolding event_line
     misplaced h cs ok = record { is = rw (count, exit-last ok, h); ok = tt }
 
@@ -140,12 +110,21 @@ module _ {s es : List ℕ} {from b c to kind : ℕ} {a : SheetAt} (k : Told s es
   counted-fields : event_fields (exit_in kind) (suc (suc (suc (length (behind s c to))))) ≡ true
   counted-fields = rw k.fields at k.count
 
-  pub unknown : Refused 4 ≡ operate_of (slice from b s) → EventLineAs s from to kind a es es UnknownOperate
-  unfolding event_line
-  unknown h cs ok = record { is = rw (k.fields, counted-fields, exit-last ok, k.place, ← h); ok = tt }
+  -- the operate as it is lent
+  spelled : operate_of (take (b - from) (drop from s)) ≡ operate_of (slice from b s)
+  spelled = ap operate_of (part-size from b s k.low)
 
-  module _ {operate : ℕ} (o : Got operate ≡ operate_of (slice from b s)) where
-    pub long-name : name_limit < c - (b + 1) → EventLineAs s from to kind a es es PastLimit
+  pub unknown : Refused 4 ≡ operate_of (take (b - from) (drop from s)) → EventLineAs s from to kind a es es (Err SheetError.UnknownOperate)
+  unfolding event_line
+  unknown h cs ok =
+      let o = h ∙ spelled in
+      record { is = rw (k.fields, counted-fields, exit-last ok, k.place, ← o); ok = tt }
+
+  module _ {operate : ℕ} (lent : Got operate ≡ operate_of (take (b - from) (drop from s))) where
+    o : Got operate ≡ operate_of (slice from b s)
+    o = lent ∙ spelled
+
+    pub long-name : name_limit < c - (b + 1) → EventLineAs s from to kind a es es (Err SheetError.PastLimit)
     unfolding event_line
     long-name h cs ok = record { is = rw (k.fields, counted-fields, exit-last ok, k.place, ← o, lt-leb (length (slice (b + 1) c s)) 256 (omega (arith, size))); ok = tt }
 
@@ -153,23 +132,19 @@ module _ {s es : List ℕ} {from b c to kind : ℕ} {a : SheetAt} (k : Told s es
       fits : leb (length (slice (b + 1) c s)) 256 ≡ true
       fits = le-leb (length (slice (b + 1) c s)) 256 (omega (arith, size))
 
-      pub no_number : Refused 3 ≡ lots_behind (behind s c to) → EventLineAs s from to kind a es es BadNumber
+      pub bad_lots : {e : SheetError} → Refused (sheet_refusal e) ≡ lots_behind (behind s c to) → EventLineAs s from to kind a es es (Err e)
       unfolding event_line
-      no_number h cs ok = record { is = rw (k.fields, counted-fields, exit-last ok, k.place, ← o, fits, ← h); ok = tt }
-
-      pub outside : Refused 18 ≡ lots_behind (behind s c to) → EventLineAs s from to kind a es es BadLots
-      unfolding event_line
-      outside h cs ok = record { is = rw (k.fields, counted-fields, exit-last ok, k.place, ← o, fits, ← h); ok = tt }
+      bad_lots h cs ok = record { is = rw (k.fields, counted-fields, exit-last ok, k.place, ← o, fits, ← h); ok = tt }
 
       module _ {lots : ℕ} (l : Got lots ≡ lots_behind (behind s c to)) where
-        pub no_room : event_limit ≤ a.events → EventLineAs s from to kind a es es PastLimit
+        pub no_room : event_limit ≤ a.events → EventLineAs s from to kind a es es (Err SheetError.PastLimit)
         unfolding event_line
         no_room h cs ok = record { is = rw (k.fields, counted-fields, exit-last ok, k.place, ← o, fits, ← l, event_total ok, le-ltb a.events 32 h); ok = tt }
 
         -- fs are the numbers, and r the counts, with one event more
         pub event_is : {fs : List ℕ} {r : SheetAt} → 1 ≤ lots → lots ≤ lots_limit → length es ≡ 192 → a.events < event_limit → kind ≤ 1 → operate ≤ 6
             → fs ≡ patch es (6 * a.events) ((kind + 2 * (lots - 1)) ∷ operate ∷ (b + 1) ∷ (c - (b + 1)) ∷ a.clauses ∷ 0 ∷ []) → r ≡ counted a (a.events + 1) a.clauses
-            → EventLineAs s from to kind a es fs (Is r)
+            → EventLineAs s from to kind a es fs (Ok r)
         unfolding event_line part
         event_is least most room free low high p q cs ok =
             let two : (kind + 2 * (lots - 1)) % 2 ≡ kind % 2 = omega arith in

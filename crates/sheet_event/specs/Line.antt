@@ -1,30 +1,35 @@
 -- What the reading of an event's line means, for the contracts of its functions. Assumes nothing.
-use Rattle.std.specs.Prelude.{ℕ, suc, ◌+◌, ◌≤◌, ◌≡◌, true, List, [], ◌∷◌, length}
+use Rattle.sheet.specs.declared.SheetError.{SheetError}
+use Rattle.std.specs.Prelude.{ℕ, suc, ◌+◌, ◌≤◌, ◌≡◌, true, List, [], ◌∷◌, length, Result, Ok, Err}
 use Rattle.std.proofs.Math.Seq.{slice}
 use Rattle.text.specs.Answer.{Answer, Refused, Got}
 use Rattle.sheet.specs.Sheet.{lots_limit, exit_in}
 use Rattle.sheet.specs.Read.{event_fields, event_line}
-use Rattle.sheet.specs.Places.{fields_of, behind, sheet_at, SheetOk, SheetIs}
+use Rattle.sheet.specs.Places.{fields_of, behind, sheet_at, SheetOk, SheetIs, sheet_refusal}
 use Rattle.sheet.specs.declared.SheetAt.{SheetAt}
-use Rattle.sheet.specs.declared.SheetRead.{SheetRead}
 use Rattle.sheet_numbers.specs.Counted.{in_place}
-use Rattle.sheet_event.specs.declared.Lots.{Lots}
-use Rattle.sheet_event.specs.declared.Lots.TheVariants.{Are, NoNumber, Outside}
+use Rattle.sheet_event.specs.declared.EventKind.{EventKind}
+use Rattle.sheet_event.specs.declared.EventKind.TheVariants.{Opening, Exit}
+
+-- ---- the kind
+
+-- the number that is kept
+abbrev pub kind_number : EventKind → ℕ
+kind_number Opening = 0
+kind_number Exit = 1
 
 -- ---- the lots
 
-abbrev pub lots_read : Lots → Answer ℕ
-lots_read (Are n) = Got n
-lots_read NoNumber = Refused 3
-lots_read Outside = Refused 18
+abbrev pub lots_read : Result ℕ SheetError → Answer ℕ
+lots_read (Ok n) = Got n
+lots_read (Err e) = Refused (sheet_refusal e)
 
-abbrev pub LotsOk : Lots → Type 0
-LotsOk (Are n) = (1 ≤ n) × (n ≤ lots_limit)
-LotsOk NoNumber = Unit {0}
-LotsOk Outside = Unit {0}
+abbrev pub LotsOk : Result ℕ SheetError → Type 0
+LotsOk (Ok n) = (1 ≤ n) × (n ≤ lots_limit)
+LotsOk (Err e) = Unit {0}
 
 -- r is the answer x
-pub record LotsIs (x : Answer ℕ) (r : Lots) : Type 0 where
+pub record LotsIs (x : Answer ℕ) (r : Result ℕ SheetError) : Type 0 where
   pub is : lots_read r ≡ x
   pub ok : LotsOk r
 
@@ -42,6 +47,6 @@ pub record Told (s es : List ℕ) (from b c to kind : ℕ) (a : SheetAt) : Type 
 
 -- The sheet so far is `a`, with es and cs; r is what it says with one line more, and es' are its events' numbers then: an event line, whose
 -- fields behind the tag are from..to, whatever the clauses are.
-abbrev pub EventLineAs : List ℕ → ℕ → ℕ → ℕ → SheetAt → List ℕ → List ℕ → SheetRead → Type 0
+abbrev pub EventLineAs : List ℕ → ℕ → ℕ → ℕ → SheetAt → List ℕ → List ℕ → Result SheetAt SheetError → Type 0
 EventLineAs s from to kind a es es' r =
     (cs : List ℕ) → SheetOk s es cs a → SheetIs s es' cs (event_line (exit_in kind) (sheet_at s es cs a) ([] ∷ fields_of s from to)) r

@@ -1,5 +1,7 @@
 -- What the reading of a first line means, for the contracts of its functions. Assumes nothing.
-use Rattle.std.specs.Prelude.{ℕ, ◌+◌, ◌<◌, ◌≤◌, List, [], eqb, length, get_or, drop}
+use Rattle.sheet.specs.declared.SheetAt.{SheetAt}
+use Rattle.sheet.specs.declared.SheetError.{SheetError}
+use Rattle.std.specs.Prelude.{ℕ, ◌+◌, ◌<◌, ◌≤◌, List, [], eqb, length, get_or, drop, Result}
 use Rattle.std.proofs.Math.Seq.{slice}
 use Rattle.text.specs.Answer.{Answer, Got, ◌>>=◌, given}
 use Rattle.text.specs.Number.{unsigned}
@@ -7,7 +9,6 @@ use Rattle.stop.specs.Stop.{hundredths_of}
 use Rattle.sheet.specs.Sheet.{Sheet, name_limit, interval_limit, timeout_limit, stop_limit, t0_limit}
 use Rattle.sheet.specs.Read.{minutes_in, position_line}
 use Rattle.sheet.specs.Places.{fields_of, SheetIs}
-use Rattle.sheet.specs.declared.SheetRead.{SheetRead}
 
 -- the name and the symbol of a first line that ends at `to`
 pub record Names (s : List ℕ) (name symbol to : ℕ) : Type 0 where
@@ -29,10 +30,10 @@ settings_line n s f = do
   Got (record { name = n; symbol = s; interval = interval; timeout = timeout; stop = stop; t0 = eqb t0 1; evening = evening; events = [] })
 
 -- r is what the numbers say, whatever the events and the clauses will be
-abbrev pub SettingsAs : List ℕ → ℕ → ℕ → ℕ → SheetRead → Type 0
+abbrev pub SettingsAs : List ℕ → ℕ → ℕ → ℕ → Result SheetAt SheetError → Type 0
 SettingsAs s name symbol to r =
     (es cs : List ℕ) → SheetIs s es cs (settings_line (slice 2 name s) (slice (name + 1) symbol s) (fields_of s (symbol + 1) to)) r
 
 -- r is what a first line that ends at `to` says
-abbrev pub PositionAs : List ℕ → ℕ → SheetRead → Type 0
+abbrev pub PositionAs : List ℕ → ℕ → Result SheetAt SheetError → Type 0
 PositionAs s to r = (es cs : List ℕ) → SheetIs s es cs (position_line (fields_of s 0 to)) r

@@ -10,16 +10,6 @@ ghost use Rattle.sheet_numbers.specs.Counted.{counted, in_place, Narrow};
 use sheet::{CLAUSE_NUMBERS, EVENT_NUMBERS, SheetAt};
 use signal::SignalAt;
 
-// Writes three numbers to l at `at`.
-fn put_three(l: &mut [u16], at: usize, a: u16, b: u16, c: u16)
-    requires { at + 3 ≤ length l.old }
-    ensures { l.new ≡ patch l.old at (a ∷ b ∷ c ∷ []) }
-{
-    l[at] = a;
-    l[at + 1] = b;
-    l[at + 2] = c;
-}
-
 // Writes event n, which has no clause yet: its kind with its lots, its operate, where its name starts, the name's length, and its first clause.
 pub fn put_event(
     events: &mut [u16],
@@ -35,8 +25,8 @@ pub fn put_event(
     ensures { events.new ≡ patch events.old (6 * n) (kind ∷ operate ∷ from ∷ len ∷ first ∷ 0 ∷ []) }
 {
     let at = EVENT_NUMBERS * n;
-    put_three(events, at, kind, operate, from as u16);
-    put_three(events, at + 3, len as u16, first as u16, 0);
+    let numbers = [kind, operate, from as u16, len as u16, first as u16, 0];
+    events[at..at + EVENT_NUMBERS].copy_from_slice(&numbers);
 }
 
 // Writes clause n: its kind, where its signal starts, the places of the signal's parts, and the score.
@@ -46,16 +36,18 @@ pub fn put_clause(clauses: &mut [u16], n: usize, kind: u16, from: u16, g: Signal
     ensures { clauses.new ≡ patch clauses.old (9 * n) (kind ∷ from ∷ g.k1 ∷ g.k2 ∷ g.k3 ∷ g.v1 ∷ g.v2 ∷ g.v3 ∷ g.score ∷ []) }
 {
     let at = CLAUSE_NUMBERS * n;
-    let k1 = g.k1 as u16;
-    let k2 = g.k2 as u16;
-    let k3 = g.k3 as u16;
-    let v1 = g.v1 as u16;
-    let v2 = g.v2 as u16;
-    let v3 = g.v3 as u16;
-    let score = g.score as u16;
-    put_three(clauses, at, kind, from, k1);
-    put_three(clauses, at + 3, k2, k3, v1);
-    put_three(clauses, at + 6, v2, v3, score);
+    let numbers = [
+        kind,
+        from,
+        g.k1 as u16,
+        g.k2 as u16,
+        g.k3 as u16,
+        g.v1 as u16,
+        g.v2 as u16,
+        g.v3 as u16,
+        g.score as u16,
+    ];
+    clauses[at..at + CLAUSE_NUMBERS].copy_from_slice(&numbers);
 }
 
 // Adds one to the count of event i.
@@ -63,18 +55,18 @@ pub fn more_clauses(events: &mut [u16], i: usize)
     requires { (6 * i + 6 ≤ length events.old) × (event_number events.old i 5 ≤ 256) }
     ensures { events.new ≡ patch events.old (6 * i + 5) ((event_number events.old i 5 + 1) ∷ []) }
 {
-    let at = EVENT_NUMBERS * i + 5;
-    events[at] = events[at] + 1;
+    events[EVENT_NUMBERS * i + 5] += 1;
 }
 
 // The same sheet with other counts.
 pub fn with_counts(a: SheetAt, events: usize, clauses: usize) -> SheetAt
     ensures { result ≡ counted a events clauses }
 {
-    let mut b = a;
-    b.events = events;
-    b.clauses = clauses;
-    b
+    SheetAt {
+        events,
+        clauses,
+        ..a
+    }
 }
 
 // Whether an event of this kind, with whatever lots, may come behind n events.
@@ -82,11 +74,5 @@ pub fn in_place(events: &[u16], n: usize, kind: u16) -> bool
     requires { 6 * n ≤ length events.now }
     ensures { result ≡ in_place events.now n kind }
 {
-    if kind % 2 == 1 {
-        return true;
-    }
-    if n == 0 {
-        return true;
-    }
-    events[EVENT_NUMBERS * (n - 1)] % 2 != 1
+    kind % 2 == 1 || n == 0 || events[EVENT_NUMBERS * (n - 1)] % 2 != 1
 }

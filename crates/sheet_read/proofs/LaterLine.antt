@@ -1,4 +1,6 @@
 -- What a later line says, by its tag. Assumes nothing.
+use Rattle.sheet.specs.declared.SheetError.{SheetError}
+use Rattle.std.specs.Prelude.{Result, Err}
 use Prim.Native.Nat.{ℕ, ◌+◌, ◌-◌, ◌<◌, ◌≤◌}
 use native.Mathlib.Omega.{arith}
 use mathlib.Core.Path.{◌≡◌, ◌∙◌, refl, sym, ap}
@@ -17,8 +19,6 @@ use Rattle.sheet.specs.Sheet.{Sheet, Kind, All, Any, Not, kind_of}
 use Rattle.sheet.specs.Read.{event_fields, event_line, clause_line, later_line}
 use Rattle.sheet.specs.Places.{fields_of, sheet_at, SheetOk}
 use Rattle.sheet.specs.declared.SheetAt.{SheetAt}
-use Rattle.sheet.specs.declared.SheetRead.{SheetRead}
-use Rattle.sheet.specs.declared.SheetRead.TheVariants.{Malformed}
 use Rattle.sheet.proofs.Fields.{split-few, tag_other, tag_long, two_first}
 use Rattle.sheet_event.specs.Line.{EventLineAs}
 use Rattle.sheet_clause.specs.Line.{ClauseLineAs}
@@ -104,7 +104,7 @@ tag_n q t = refl
 -- ---- the line
 
 module _ {s es cs : List ℕ} {a : SheetAt} (ok : SheetOk s es cs a) {from to : ℕ} (p : Part s from to) where
-  pub line-short : to - from < 2 → LineAs s from to a es cs es cs Malformed
+  pub line-short : to - from < 2 → LineAs s from to a es cs es cs (Err SheetError.Malformed)
   line-short h = record { is = sym (short-line (sheet_at s es cs a) (slice from to s) (omega (arith, length-slice from to s p.within))); ok = tt }
 
   module _ (h : 2 ≤ to - from) where
@@ -114,7 +114,7 @@ module _ {s es cs : List ℕ} {a : SheetAt} (ok : SheetOk s es cs a) {from to : 
     split-is : slice from to s ≡ get_or s from 0 ∷ get_or s (from + 1) 0 ∷ slice (from + 2) to s
     split-is = two_first p (omega arith)
 
-    pub line-long : get_or s (from + 1) 0 ≢ pipe → LineAs s from to a es cs es cs Malformed
+    pub line-long : get_or s (from + 1) 0 ≢ pipe → LineAs s from to a es cs es cs (Err SheetError.Malformed)
     line-long n = record { is = sym (rw split-is (no_tag (sheet_at s es cs a) (split pipe (x ∷ y ∷ t)) (tag_long 79 x y t n) (tag_long 88 x y t n) (tag_long 65 x y t n) (tag_long 89 x y t n) (tag_long 78 x y t n))); ok = tt }
       where
         x : ℕ
@@ -130,17 +130,17 @@ module _ {s es cs : List ℕ} {a : SheetAt} (ok : SheetOk s es cs a) {from to : 
       tagged : (x : ℕ) → get_or s from 0 ≡ x → split pipe (x ∷ pipe ∷ slice (from + 2) to s) ≡ fields_of s from to
       tagged x e = let k : x ∷ pipe ∷ slice (from + 2) to s ≡ slice from to s = sym (split-is ∙ rw (e, m)) in ap (split pipe) k
 
-      pub line_other : get_or s from 0 ≢ 79 → get_or s from 0 ≢ 88 → get_or s from 0 ≢ 65 → get_or s from 0 ≢ 89 → get_or s from 0 ≢ 78 → LineAs s from to a es cs es cs Malformed
+      pub line_other : get_or s from 0 ≢ 79 → get_or s from 0 ≢ 88 → get_or s from 0 ≢ 65 → get_or s from 0 ≢ 89 → get_or s from 0 ≢ 78 → LineAs s from to a es cs es cs (Err SheetError.Malformed)
       line_other o x b y n = record { is = sym (rw split-is (other_byte (sheet_at s es cs a) (get_or s from 0) (get_or s (from + 1) 0 ∷ slice (from + 2) to s) o x b y n)); ok = tt }
 
-      module _ {fs : List ℕ} {r : SheetRead} where
+      module _ {fs : List ℕ} {r : Result SheetAt SheetError} where
         pub line_o : get_or s from 0 ≡ 79 → EventLineAs s (from + 2) to 0 a es fs r → LineAs s from to a es cs fs cs r
         line_o e k = record { is = (k cs ok).is ∙ tag_o (sheet_at s es cs a) (slice (from + 2) to s) ∙ ap (later_line (sheet_at s es cs a)) (tagged 79 e); ok = (k cs ok).ok }
 
         pub line_x : get_or s from 0 ≡ 88 → EventLineAs s (from + 2) to 1 a es fs r → LineAs s from to a es cs fs cs r
         line_x e k = record { is = (k cs ok).is ∙ tag_x (sheet_at s es cs a) (slice (from + 2) to s) ∙ ap (later_line (sheet_at s es cs a)) (tagged 88 e); ok = (k cs ok).ok }
 
-      module _ {fs ds : List ℕ} {r : SheetRead} where
+      module _ {fs ds : List ℕ} {r : Result SheetAt SheetError} where
         pub line_a : get_or s from 0 ≡ 65 → ClauseLineAs s (from + 2) to 0 a es cs fs ds r → LineAs s from to a es cs fs ds r
         line_a e k = record { is = k.is ∙ tag_a (sheet_at s es cs a) (slice (from + 2) to s) ∙ ap (later_line (sheet_at s es cs a)) (tagged 65 e); ok = k.ok }
 

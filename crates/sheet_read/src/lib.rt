@@ -7,9 +7,9 @@ ghost use Rattle.utf8.specs.Alone.{text_limit};
 ghost use Rattle.sheet.specs.Places.{SheetOk, SheetAs};
 ghost use Rattle.sheet_read.specs.Lines.{LineAs, LinesAs};
 
-use sheet::{SheetAt, SheetRead};
-use sheet_clause::clause_line;
-use sheet_event::event_line;
+use sheet::{SheetAt, SheetError};
+use sheet_clause::{ClauseKind, clause_line};
+use sheet_event::{EventKind, event_line};
 use sheet_first::position_line;
 use text::{LF, PIPE, find};
 use utf8_text::TEXT_LIMIT;
@@ -22,27 +22,23 @@ fn later_line(
     a: SheetAt,
     events: &mut [u16],
     clauses: &mut [u16],
-) -> SheetRead
+) -> Result<SheetAt, SheetError>
     requires part { Part s.now from to }
     requires events_len { (length events.old ≡ 192) × (length clauses.old ≡ 2304) × (length s.now ≤ text_limit) }
     requires sheet_ok { SheetOk s.now events.old clauses.old a }
     ensures { LineAs s.now from to a events.old clauses.old events.new clauses.new result }
 {
-    if to - from < 2 {
-        return SheetRead::Malformed;
+    if to - from < 2 || s[from + 1] != PIPE {
+        return Err(SheetError::Malformed);
     }
-    if s[from + 1] != PIPE {
-        return SheetRead::Malformed;
-    }
-    let tag = s[from];
     let at = from + 2;
-    match tag {
-        b'O' => event_line(s, at, to, 0, a, events),
-        b'X' => event_line(s, at, to, 1, a, events),
-        b'A' => clause_line(s, at, to, 0, a, events, clauses),
-        b'Y' => clause_line(s, at, to, 1, a, events, clauses),
-        b'N' => clause_line(s, at, to, 2, a, events, clauses),
-        _ => SheetRead::Malformed,
+    match s[from] {
+        b'O' => event_line(s, at, to, EventKind::Opening, a, events),
+        b'X' => event_line(s, at, to, EventKind::Exit, a, events),
+        b'A' => clause_line(s, at, to, ClauseKind::All, a, events, clauses),
+        b'Y' => clause_line(s, at, to, ClauseKind::Any, a, events, clauses),
+        b'N' => clause_line(s, at, to, ClauseKind::Not, a, events, clauses),
+        _ => Err(SheetError::Malformed),
     }
 }
 
@@ -53,7 +49,7 @@ fn later_lines(
     a: SheetAt,
     events: &mut [u16],
     clauses: &mut [u16],
-) -> SheetRead
+) -> Result<SheetAt, SheetError>
     requires from_in_bounds { from ≤ length s.now }
     requires events_len { (length events.old ≡ 192) × (length clauses.old ≡ 2304) × (length s.now ≤ text_limit) }
     requires sheet_ok { SheetOk s.now events.old clauses.old a }
@@ -62,41 +58,35 @@ fn later_lines(
     let n = s.len();
     let mut sheet = a;
     let mut i = from;
+    // A while loop: each turn goes on where its line ended.
     while i < n {
         let end = find(s, i, n, LF);
         if end == n {
-            return SheetRead::Malformed;
+            return Err(SheetError::Malformed);
         }
-        let r = later_line(s, i, end, sheet, events, clauses);
-        let SheetRead::Is(next) = r else {
-            return r;
-        };
-        sheet = next;
+        sheet = later_line(s, i, end, sheet, events, clauses)?;
         i = end + 1;
     }
-    SheetRead::Is(sheet)
+    Ok(sheet)
 }
 
 // The sheet that s is, or the first reason to refuse it. The numbers of its events and of its clauses are written to what is lent, which has
 // room for 32 events and 256 clauses.
-pub fn read_sheet(s: &[u8], events: &mut [u16], clauses: &mut [u16]) -> SheetRead
+pub fn read_sheet(s: &[u8], events: &mut [u16], clauses: &mut [u16]) -> Result<SheetAt, SheetError>
     requires { (length events.old ≡ 192) × (length clauses.old ≡ 2304) }
     ensures { SheetAs s.now events.new clauses.new result }
 {
     let n = s.len();
     if TEXT_LIMIT < n {
-        return SheetRead::PastLimit;
+        return Err(SheetError::PastLimit);
     }
     if !utf8_text::valid(s) {
-        return SheetRead::NotUtf8;
+        return Err(SheetError::NotUtf8);
     }
     let end = find(s, 0, n, LF);
     if end == n {
-        return SheetRead::Malformed;
+        return Err(SheetError::Malformed);
     }
-    let r = position_line(s, end);
-    let SheetRead::Is(a) = r else {
-        return r;
-    };
+    let a = position_line(s, end)?;
     later_lines(s, end + 1, a, events, clauses)
 }

@@ -2,7 +2,7 @@
 use Prim.Native.Nat.{ℕ}
 use mathlib.Core.List.{List}
 use mathlib.Core.Path.{◌≡◌, refl}
-use mathlib.Core.Option.{none, some}
+use Rattle.std.specs.Prelude.{None, Some}
 use lib.IntN.{negsuc, pos}
 use Rattle.text.specs.Answer.{Answer, Refused, Got, ◌>>=◌}
 use Rattle.text.specs.Literal.{bytes}
@@ -63,8 +63,8 @@ unfolding opened
 keys = (refl, refl, refl, refl, refl, refl, refl, refl)
 
 -- a value has exactly four parts and a readable score, which may be below 0 and above 1,000
-values : (value_of (bytes "up_a__-5") ≡ some (record { v1 = bytes "up"; v2 = bytes "a"; v3 = bytes ""; score = negsuc 4 }))
-    × (value_of (bytes "up_a__1001") ≡ some (record { v1 = bytes "up"; v2 = bytes "a"; v3 = bytes ""; score = pos 1_001 }))
-    × (value_of (bytes "up_a_5") ≡ none) × (value_of (bytes "up_a_b_c_5") ≡ none) × (value_of (bytes "up_a_b_x") ≡ none)
+values : (value_of (bytes "up_a__-5") ≡ Some (record { v1 = bytes "up"; v2 = bytes "a"; v3 = bytes ""; score = negsuc 4 }))
+    × (value_of (bytes "up_a__1001") ≡ Some (record { v1 = bytes "up"; v2 = bytes "a"; v3 = bytes ""; score = pos 1_001 }))
+    × (value_of (bytes "up_a_5") ≡ None) × (value_of (bytes "up_a_b_c_5") ≡ None) × (value_of (bytes "up_a_b_x") ≡ None)
 unfolding opened
 values = (refl, refl, refl, refl, refl)

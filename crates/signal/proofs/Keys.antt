@@ -33,13 +33,6 @@ module _ {s : List ℕ} {from to : ℕ} (p : Part s from to) (e : KeyEnd) where
   key_wild l h w = record { put = rw w (put-none l e.at h); more = rw w (or_false e.some); near = omega arith }
 
   module _ (w : same (slice from to s) wildcard ≡ false) where
-    -- room for what a part adds is room for its bytes
-    pub key_next_room : {n : ℕ} → e.some ≡ true → e.at + length (key_part e.some (slice from to s)) ≤ n → e.at + (1 + (to - from)) ≤ n
-    key_next_room o h = let k = rw (w, o) at h in omega (arith, k, size)
-
-    pub key_first_room : {n : ℕ} → e.some ≡ false → e.at + length (key_part e.some (slice from to s)) ≤ n → e.at + (to - from) ≤ n
-    key_first_room o h = let k = rw (w, o) at h in omega (arith, k, size)
-
     -- behind another part, an underscore and the part
     pub key-next : {l m n : List ℕ} {x q : ℕ} → e.some ≡ true → Put l m e.at (underscore ∷ []) x → Put m n x (slice from to s) q → KeyPut l n e s from to (record { at = q; some = true })
     key-next o a b = record { put = rw (w, o) (put-put a b); more = rw w (or_true e.some); near = omega (arith, a.end, b.end, size) }

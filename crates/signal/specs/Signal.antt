@@ -1,6 +1,5 @@
 -- Signals: seven parts between underscores, k1 k2 k3 v1 v2 v3 score. Assumes nothing.
-use Rattle.std.specs.Prelude.{ℕ, cond, List, [], ◌∷◌, leb, eqb, ℤ, pos, negsuc, length, get_or}
-use Rattle.std.proofs.Math.Option.{Option, none, some}
+use Rattle.std.specs.Prelude.{ℕ, cond, List, [], ◌∷◌, leb, eqb, ℤ, pos, negsuc, length, get_or, Option, None, Some}
 use Rattle.text.specs.Answer.{Answer, Got, ◌>>=◌, must, given}
 use Rattle.text.specs.Literal.{bytes}
 use Rattle.text.specs.Text.{same, split, joined, underscore}
@@ -33,9 +32,9 @@ score_limit = 1_000
 
 -- "6 is given outside that"
 abbrev pub score : Option ℤ → Option ℕ
-score none = none
-score (some (pos n)) = cond (leb n score_limit) (some n) none
-score (some (negsuc n)) = none
+score None = None
+score (Some (pos n)) = cond (leb n score_limit) (Some n) None
+score (Some (negsuc n)) = None
 
 -- "Signal (`Signal::from_str`): exactly 7 parts between underscores" (5), the last a score (6)
 unfoldable pub signal_of : List ℕ → Answer Signal

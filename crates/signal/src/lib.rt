@@ -5,22 +5,23 @@ ghost use Rattle.std.specs.Prelude.{◌≡◌, ◌+◌, ◌-◌, ◌<◌, ◌≤
 ghost use Rattle.std.proofs.Math.Seq.{slice};
 ghost use Rattle.text.specs.Text.{same};
 ghost use Rattle.text.specs.Read.{Part};
-ghost use Rattle.text_number.specs.Read.{number_of, int_of};
 ghost use Rattle.signal.specs.Signal.{wildcard, score as Signal·score};
-ghost use Rattle.signal.specs.Read.{ThreeFrom, LastFrom, signal_in, SignalOk, ReadAs, AloneAs, key_part, KeyPut, KeyAt, ValueAs};
+ghost use Rattle.signal.specs.declared.SignalAloneError.TheVariants as SignalAloneError;
+ghost use Rattle.signal.specs.Read.{PartEnd, ThreeFrom, signal_in, SignalOk, ReadAs, AloneAs, key_part, KeyPut, KeyAt, ValueAs};
 
 use text::{UNDERSCORE, find, part_eq, put_byte, put_part};
-use text_number::{Int, Number, read_i32};
-use utf8_text::Alone;
+use text_number::read_i32;
+use utf8_text::AloneError;
 
 // The highest score of a signal.
 pub const SCORE_LIMIT: u64 = 1_000;
 
-// The places of three underscores, one behind each of three parts, or too few parts.
+// The places of three underscores, one behind each of three parts.
 #[derive(Clone, Copy)]
-enum Three {
-    At(usize, usize, usize),
-    Few,
+struct Three {
+    first: usize,
+    second: usize,
+    third: usize,
 }
 
 // A signal that was read: the place behind each part but the score, where its underscore stands, and the score.
@@ -35,23 +36,34 @@ pub struct SignalAt {
     pub score: u64,
 }
 
-// What a text says as a signal.
+// Why a text is no signal.
 #[derive(Clone, Copy)]
-pub enum SignalRead {
-    Is(SignalAt),
+pub enum SignalError {
     NotSeven,
     BadScore,
 }
 
-// What a text that stands alone says as a signal, or why it is refused.
+// Why a text that stands alone is no signal.
 #[derive(Clone, Copy)]
-pub enum SignalAlone {
-    Alone(SignalAt),
-    TooLong,
-    NotUtf8,
-    Marked,
-    WrongParts,
-    WrongScore,
+pub enum SignalAloneError {
+    Text(AloneError),
+    Signal(SignalError),
+}
+
+impl From<AloneError> for SignalAloneError {
+    ghost from_gives = { λ e r. r ≡ SignalAloneError.Text e };
+
+    fn from(e: AloneError) -> SignalAloneError {
+        SignalAloneError::Text(e)
+    }
+}
+
+impl From<SignalError> for SignalAloneError {
+    ghost from_gives = { λ e r. r ≡ SignalAloneError.Signal e };
+
+    fn from(e: SignalError) -> SignalAloneError {
+        SignalAloneError::Signal(e)
+    }
 }
 
 // A value that was read: the place behind each of its three parts, and the score.
@@ -60,111 +72,77 @@ pub struct ValueAt {
     pub v1: usize,
     pub v2: usize,
     pub v3: usize,
-    pub score: Int,
-}
-
-// What a text says as a bar's value.
-#[derive(Clone, Copy)]
-pub enum ValueRead {
-    Counts(ValueAt),
-    Absent,
+    pub score: i32,
 }
 
 // The end of a key that is being written, and whether it has a part already.
 #[derive(Clone, Copy)]
-pub struct KeyEnd {
-    pub at: usize,
-    pub some: bool,
+struct KeyEnd {
+    at: usize,
+    some: bool,
+}
+
+// The underscore behind the part of s that starts at `from`, or none behind the last part.
+fn part_end(s: &[u8], from: usize) -> Option<usize>
+    requires { from ≤ length s.now }
+    ensures { PartEnd s.now from result }
+{
+    let n = s.len();
+    let end = find(s, from, n, UNDERSCORE);
+    (end < n).then_some(end)
 }
 
 // The three parts of s from `from` on that have an underscore behind them.
-fn three_parts(s: &[u8], from: usize) -> Three
+fn three_parts(s: &[u8], from: usize) -> Option<Three>
     requires { from ≤ length s.now }
     ensures { ThreeFrom s.now from result }
 {
-    let n = s.len();
-    let a = find(s, from, n, UNDERSCORE);
-    if a == n {
-        return Three::Few;
-    }
-    let b = find(s, a + 1, n, UNDERSCORE);
-    if b == n {
-        return Three::Few;
-    }
-    let c = find(s, b + 1, n, UNDERSCORE);
-    if c == n {
-        return Three::Few;
-    }
-    Three::At(a, b, c)
-}
-
-// Whether s from `from` on is one part.
-fn is_last(s: &[u8], from: usize) -> bool
-    requires { from ≤ length s.now }
-    ensures { LastFrom s.now from result }
-{
-    let n = s.len();
-    find(s, from, n, UNDERSCORE) == n
+    let first = part_end(s, from)?;
+    let second = part_end(s, first + 1)?;
+    let third = part_end(s, second + 1)?;
+    Some(Three {
+        first,
+        second,
+        third,
+    })
 }
 
 // The score that a number is.
-fn score(i: Int) -> Number
-    ensures { number_of result ≡ Signal·score (int_of i) }
+fn score(i: Option<i32>) -> Option<u64>
+    ensures { result ≡ Signal·score i }
 {
-    match i {
-        Int::Plus(m) => {
-            if m <= SCORE_LIMIT {
-                Number::Is(m)
-            } else {
-                Number::Bad
-            }
-        }
-        Int::Minus(m) => { if m == 0 { Number::Is(0) } else { Number::Bad } }
-        Int::Not => Number::Bad,
-    }
+    let n = u64::try_from(i?).ok()?;
+    (n <= SCORE_LIMIT).then_some(n)
 }
 
 // The signal that s is.
-pub fn from_str(s: &[u8]) -> SignalRead
+pub fn from_str(s: &[u8]) -> Result<SignalAt, SignalError>
     ensures { ReadAs s.now result }
 {
-    let Three::At(k1, k2, k3) = three_parts(s, 0) else {
-        return SignalRead::NotSeven;
-    };
-    let Three::At(v1, v2, v3) = three_parts(s, k3 + 1) else {
-        return SignalRead::NotSeven;
-    };
-    if !is_last(s, v3 + 1) {
-        return SignalRead::NotSeven;
+    let k = three_parts(s, 0).ok_or(SignalError::NotSeven)?;
+    let v = three_parts(s, k.third + 1).ok_or(SignalError::NotSeven)?;
+    let last = v.third + 1;
+    if part_end(s, last).is_some() {
+        return Err(SignalError::NotSeven);
     }
-    let Number::Is(n) = score(read_i32(s, v3 + 1, s.len())) else {
-        return SignalRead::BadScore;
-    };
-    SignalRead::Is(SignalAt {
-        k1: k1,
-        k2: k2,
-        k3: k3,
-        v1: v1,
-        v2: v2,
-        v3: v3,
-        score: n,
+    let score = score(read_i32(s, last, s.len())).ok_or(SignalError::BadScore)?;
+    Ok(SignalAt {
+        k1: k.first,
+        k2: k.second,
+        k3: k.third,
+        v1: v.first,
+        v2: v.second,
+        v3: v.third,
+        score,
     })
 }
 
 // The signal that s alone is, or the first reason to refuse it.
-pub fn signal_alone(s: &[u8]) -> SignalAlone
+pub fn signal_alone(s: &[u8]) -> Result<SignalAt, SignalAloneError>
     ensures { AloneAs s.now result }
 {
-    match utf8_text::check_alone(s) {
-        Alone::TooLong => SignalAlone::TooLong,
-        Alone::NotUtf8 => SignalAlone::NotUtf8,
-        Alone::Marked => SignalAlone::Marked,
-        Alone::Fine => match from_str(s) {
-            SignalRead::Is(a) => SignalAlone::Alone(a),
-            SignalRead::NotSeven => SignalAlone::WrongParts,
-            SignalRead::BadScore => SignalAlone::WrongScore,
-        },
-    }
+    utf8_text::check_alone(s)?;
+    Ok(from_str(s)?)
 }
 
 // Whether s in from..to is the wildcard 任意.
@@ -184,14 +162,13 @@ fn put_key_part(dst: &mut [u8], end: KeyEnd, s: &[u8], from: usize, to: usize) -
     if is_wild(s, from, to) {
         return end;
     }
-    let at = end.at;
-    if end.some {
-        let p = put_byte(dst, at, UNDERSCORE);
-        let q = put_part(dst, p, s, from, to);
-        return KeyEnd { at: q, some: true };
-    }
-    let q = put_part(dst, at, s, from, to);
-    KeyEnd { at: q, some: true }
+    let start = if end.some {
+        put_byte(dst, end.at, UNDERSCORE)
+    } else {
+        end.at
+    };
+    let at = put_part(dst, start, s, from, to);
+    KeyEnd { at, some: true }
 }
 
 // Writes the key of a signal in s to dst at `at`, and answers the place behind it.
@@ -200,37 +177,27 @@ pub fn put_key(dst: &mut [u8], at: usize, s: &[u8], a: SignalAt) -> usize
     requires a_in_bounds { at + length (signal_in s.now a).key ≤ length dst.old }
     ensures { KeyAt dst.old dst.new at s.now a result }
 {
-    let k1 = a.k1;
-    let k2 = a.k2;
-    let k3 = a.k3;
-    let none = KeyEnd {
-        at: at,
-        some: false,
-    };
-    let one = put_key_part(dst, none, s, 0, k1);
-    let two = put_key_part(dst, one, s, k1 + 1, k2);
-    let three = put_key_part(dst, two, s, k2 + 1, k3);
+    let none = KeyEnd { at, some: false };
+    let one = put_key_part(dst, none, s, 0, a.k1);
+    let two = put_key_part(dst, one, s, a.k1 + 1, a.k2);
+    let three = put_key_part(dst, two, s, a.k2 + 1, a.k3);
     three.at
 }
 
 // The value that s is, or none that counts.
-pub fn read_value(s: &[u8]) -> ValueRead
+pub fn read_value(s: &[u8]) -> Option<ValueAt>
     ensures { ValueAs s.now result }
 {
-    let Three::At(v1, v2, v3) = three_parts(s, 0) else {
-        return ValueRead::Absent;
-    };
-    if !is_last(s, v3 + 1) {
-        return ValueRead::Absent;
+    let v = three_parts(s, 0)?;
+    let last = v.third + 1;
+    if part_end(s, last).is_some() {
+        return None;
     }
-    let score = read_i32(s, v3 + 1, s.len());
-    if let Int::Not = score {
-        return ValueRead::Absent;
-    }
-    ValueRead::Counts(ValueAt {
-        v1: v1,
-        v2: v2,
-        v3: v3,
-        score: score,
+    let score = read_i32(s, last, s.len())?;
+    Some(ValueAt {
+        v1: v.first,
+        v2: v.second,
+        v3: v.third,
+        score,
     })
 }

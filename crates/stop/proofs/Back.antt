@@ -5,7 +5,7 @@ use native.Mathlib.Omega.{arith}
 use mathlib.Core.Bool.{true, not}
 use mathlib.Core.List.{List, [], ◌∷◌, ◌++◌}
 use mathlib.Core.Logic.{◌≢◌}
-use mathlib.Core.Option.{some}
+use Rattle.std.specs.Prelude.{Some}
 use mathlib.Core.Path.{◌≡◌, sym, ap, ap₂, ◌∙◌}
 use borrow.Author.Tests.{le-leb}
 use lib.ListN.{length}
@@ -32,11 +32,11 @@ split_two p d h k =
 
 -- ---- the hundredths
 
-pub within_limit : (hi h v : ℕ) → h ≤ hi → v ≡ h → given 3 (at_most hi (some v)) ≡ Got h
+pub within_limit : (hi h v : ℕ) → h ≤ hi → v ≡ h → given 3 (at_most hi (Some v)) ≡ Got h
 within_limit hi h v k e = rw (e, le-leb h hi k)
 
 module _ (hi h : ℕ) (k : h ≤ hi) (few : h < 10 ^ 12) where
-  whole-read : digits_to 10 (decimal_of (h / 100)) ≡ some (h / 100)
+  whole-read : digits_to 10 (decimal_of (h / 100)) ≡ Some (h / 100)
   whole-read = decimal_back (h / 100) 9 (omega arith)
 
   none_back : h % 100 ≡ 0 → hundredths_of hi (stop_text h) ≡ Got h
@@ -44,11 +44,11 @@ module _ (hi h : ℕ) (k : h ≤ hi) (few : h < 10 ^ 12) where
   none_back e =
       ap (λ t. given 3 (at_most hi (hundredths_in (split point t)))) (text-none h e)
       ∙ ap (λ ps. given 3 (at_most hi (hundredths_in ps))) (split-whole (decimal_of (h / 100)) (decimal_lacks (h / 100)))
-      ∙ ap (λ w. given 3 (at_most hi (together w (some 0) 1))) whole-read
+      ∙ ap (λ w. given 3 (at_most hi (together w (Some 0) 1))) whole-read
       ∙ within_limit hi h (h / 100 * 100 + 0 * 1) k (omega arith)
 
   -- decimals d, whose digits say v
-  decimals_back : (d : List ℕ) (v : ℕ) → stop_text h ≡ decimal_of (h / 100) ++ point ∷ d → lacks point d ≡ true → digits_to 2 d ≡ some v
+  decimals_back : (d : List ℕ) (v : ℕ) → stop_text h ≡ decimal_of (h / 100) ++ point ∷ d → lacks point d ≡ true → digits_to 2 d ≡ Some v
       → h / 100 * 100 + v * unit_of (length d) ≡ h → hundredths_of hi (stop_text h) ≡ Got h
   unfolding hundredths_of stop_in
   decimals_back d v t l r e =
@@ -65,11 +65,11 @@ two_lacks : (x y : ℕ) → lacks point ((48 + x) ∷ (48 + y) ∷ []) ≡ true
 unfolding has
 two_lacks x y = ap not (digit-plain x ((48 + y) ∷ []) ∙ digit-plain y [])
 
-one-read : (x : ℕ) → x < 10 → digits_to 2 ((48 + x) ∷ []) ≡ some x
+one-read : (x : ℕ) → x < 10 → digits_to 2 ((48 + x) ∷ []) ≡ Some x
 unfolding digits_behind
 one-read x h = digits-to 2 x ((48 + x) ∷ []) (omega arith) (omega arith) (first_read x [] h)
 
-two_read : (x y : ℕ) → x < 10 → y < 10 → digits_to 2 ((48 + x) ∷ (48 + y) ∷ []) ≡ some (x * 10 + y)
+two_read : (x y : ℕ) → x < 10 → y < 10 → digits_to 2 ((48 + x) ∷ (48 + y) ∷ []) ≡ Some (x * 10 + y)
 unfolding digits_behind
 two_read x y h k =
     digits-to 2 (x * 10 + y) ((48 + x) ∷ (48 + y) ∷ []) (omega arith) (omega arith)

@@ -1,4 +1,5 @@
 -- The laws of stops, and worked examples.
+pub mod Digits
 pub mod Reading
 pub mod Writing
 pub mod Back

@@ -1,6 +1,5 @@
 -- A stop in basis points with up to two decimals, kept as hundredths: its field, its text and its double. Assumes nothing.
-use Rattle.std.specs.Prelude.{ℕ, ◌+◌, ◌*◌, ◌/◌, ◌%◌, cond, List, [], ◌∷◌, ◌++◌, eqb, Float, length}
-use Rattle.std.proofs.Math.Option.{Option, none, some}
+use Rattle.std.specs.Prelude.{ℕ, ◌+◌, ◌*◌, ◌/◌, ◌%◌, cond, List, [], ◌∷◌, ◌++◌, eqb, Float, length, Option, None, Some}
 use Rattle.text.specs.Answer.{Answer, given}
 use Rattle.text.specs.Number.{at_most, digits_to, decimal_of}
 use Rattle.text.specs.Text.{point, split}
@@ -14,16 +13,16 @@ unit_of n = cond (eqb n 1) 10 1
 
 -- a whole part with decimals behind it, the last of which counts u hundredths
 abbrev pub together : Option ℕ → Option ℕ → ℕ → Option ℕ
-together none d u = none
-together (some w) none u = none
-together (some w) (some d) u = some (w * 100 + d * u)
+together None d u = None
+together (Some w) None u = None
+together (Some w) (Some d) u = Some (w * 100 + d * u)
 
 -- the parts between points: 1 to 10 digits, and where there is a point "one or two decimals after" it
 abbrev pub hundredths_in : List (List ℕ) → Option ℕ
-hundredths_in [] = none
-hundredths_in (w ∷ []) = together (digits_to 10 w) (some 0) 1
+hundredths_in [] = None
+hundredths_in (w ∷ []) = together (digits_to 10 w) (Some 0) 1
 hundredths_in (w ∷ d ∷ []) = together (digits_to 10 w) (digits_to 2 d) (unit_of (length d))
-hundredths_in (w ∷ d ∷ e ∷ ps) = none
+hundredths_in (w ∷ d ∷ e ∷ ps) = None
 
 -- the hundredths that a field says, where it has that form and they are not above hi
 unfoldable pub stop_in : ℕ → List ℕ → Option ℕ

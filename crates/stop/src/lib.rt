@@ -1,66 +1,46 @@
 // Stops in basis points with up to two decimals, kept as hundredths: read from a field, written as a text, and as a double.
 #![tactic(auto)]
 
-ghost use Rattle.std.specs.Prelude.{◌≡◌, ◌+◌, ◌^◌, ◌≤◌, length};
+ghost use Rattle.std.specs.Prelude.{◌≡◌, ◌+◌, ◌-◌, ◌^◌, ◌≤◌, length, Some};
 ghost use Rattle.std.proofs.Math.Seq.{slice};
-ghost use Rattle.text.specs.Number.{at_most};
+ghost use Rattle.text.specs.Number.{digits_to};
 ghost use Rattle.text.specs.Read.{Part, Put};
-ghost use Rattle.text_number.specs.Read.{number_of};
-ghost use Rattle.stop.specs.Stop.{stop_in, stop_text, stop_double};
-ghost use Rattle.stop.specs.Stop.{together as Stop·together};
+ghost use Rattle.stop.specs.Stop.{unit_of, together, stop_in, stop_text, stop_double};
 
 use text::{find, put_byte};
-use text_number::{Number, decimal};
+use text_number::decimal;
 use text_write::put_decimal;
 
 // What stands before the decimals.
-const POINT: u8 = 46;
+const POINT: u8 = b'.';
 
-// The hundredths of a whole part w and decimals d, the last of which counts u of them, where they are not above hi.
-fn join(w: Number, d: Number, u: u64, hi: u64) -> Number
-    requires le_u { (1 ≤ u) × (u ≤ 10) }
-    requires hi_bound { hi ≤ 10 ^ 12 }
-    ensures { number_of result ≡ at_most hi (Stop·together (number_of w) (number_of d) u) }
+// The hundredths that the one or two decimals from..to of s say.
+fn read_decimals(s: &[u8], from: usize, to: usize) -> Option<u64>
+    requires { Part s.now from to }
+    ensures { result ≡ together (Some 0) (digits_to 2 (slice from to s.now)) (unit_of (to - from)) }
 {
-    let Number::Is(a) = w else {
-        return Number::Bad;
-    };
-    let Number::Is(b) = d else {
-        return Number::Bad;
-    };
-    if hi < a {
-        return Number::Bad;
+    let d = decimal(s, from, to, 2)?;
+    if to - from == 1 {
+        Some(d * 10)
+    } else {
+        Some(d)
     }
-    if hi < b {
-        return Number::Bad;
-    }
-    let h = a * 100 + b * u;
-    if hi < h {
-        return Number::Bad;
-    }
-    Number::Is(h)
 }
 
 // The hundredths that the field from..to of s says, where they are not above hi: 1 to 10 digits, and perhaps a point and one or two more.
-pub fn read_stop(s: &[u8], from: usize, to: usize, hi: u64) -> Number
-    requires part { Part s.now from to }
-    requires hi_bound { hi ≤ 10 ^ 12 }
-    ensures { number_of result ≡ stop_in hi (slice from to s.now) }
+pub fn read_stop(s: &[u8], from: usize, to: usize, hi: u64) -> Option<u64>
+    requires { Part s.now from to }
+    ensures { result ≡ stop_in hi (slice from to s.now) }
 {
-    let p = find(s, from, to, POINT);
-    let w = decimal(s, from, p, 10);
-    if p == to {
-        return join(w, Number::Is(0), 1, hi);
-    }
-    let q = find(s, p + 1, to, POINT);
-    if q != to {
-        return Number::Bad;
-    }
-    let d = decimal(s, p + 1, to, 2);
-    if to - p == 2 {
-        return join(w, d, 10, hi);
-    }
-    join(w, d, 1, hi)
+    let point = find(s, from, to, POINT);
+    let whole = decimal(s, from, point, 10)?;
+    let behind = if point == to {
+        0
+    } else {
+        read_decimals(s, point + 1, to)?
+    };
+    let h = whole * 100 + behind;
+    (h <= hi).then_some(h)
 }
 
 // Writes h hundredths as a stop to dst at `at`, where 23 bytes are left, and answers the place behind it.
@@ -68,17 +48,17 @@ pub fn put_stop(dst: &mut [u8], at: usize, h: u64) -> usize
     requires { at + 23 ≤ length dst.old }
     ensures { Put dst.old dst.new at (stop_text h) result }
 {
-    let p = put_decimal(dst, at, h / 100);
+    let whole = put_decimal(dst, at, h / 100);
     let f = h % 100;
     if f == 0 {
-        return p;
+        return whole;
     }
-    let q = put_byte(dst, p, POINT);
-    let r = put_byte(dst, q, 48 + (f / 10) as u8);
+    let point = put_byte(dst, whole, POINT);
+    let tenths = put_byte(dst, point, b'0' + (f / 10) as u8);
     if f % 10 == 0 {
-        return r;
+        return tenths;
     }
-    put_byte(dst, r, 48 + (f % 10) as u8)
+    put_byte(dst, tenths, b'0' + (f % 10) as u8)
 }
 
 // h hundredths as a double of basis points.

@@ -18,14 +18,14 @@ unfolding part
 first l p = refl
 
 module _ (l : List ℕ) (p a b c d : ℕ) (ea : a ≡ u16 l p) (eb : b ≡ u16 l (p + 2)) (ec : c ≡ u16 l (p + 4)) (ed : d ≡ u16 l (p + 6)) where
-  pub word-is : record { at = a; len = b; rank = c; order = d } ≡ word_in (drop p l)
+  pub word_is : record { at = a; len = b; rank = c; order = d } ≡ word_in (drop p l)
   unfolding word_in
-  word-is = rw (ea, eb, ec, ed, first l p, field l p 2, field l p 4, field l p 6)
+  word_is = rw (ea, eb, ec, ed, first l p, field l p 2, field l p 4, field l p 6)
 
   module _ (e f : ℕ) (ee : e ≡ u16 l (p + 8)) (ef : f ≡ u16 l (p + 10)) where
-    pub clause-is : record { kind = a; key = b; v1 = c; v2 = d; v3 = e; score = f } ≡ clause_in (drop p l)
+    pub clause_is : record { kind = a; key = b; v1 = c; v2 = d; v3 = e; score = f } ≡ clause_in (drop p l)
     unfolding clause_in
-    clause-is = rw (ea, eb, ec, ed, ee, ef, first l p, field l p 2, field l p 4, field l p 6, field l p 8, field l p 10)
+    clause_is = rw (ea, eb, ec, ed, ee, ef, first l p, field l p 2, field l p 4, field l p 6, field l p 8, field l p 10)
 
     pub event_is : record { kind = a; operate = b; at = c; len = d; first = e; count = f } ≡ event_in (drop p l)
     unfolding event_in

@@ -3,7 +3,7 @@
 #![tactic(auto)]
 
 ghost use Rattle.std.specs.Prelude.{◌≡◌, ◌+◌, ◌*◌, ◌≤◌, length};
-ghost use Rattle.table.specs.Layout.{head_length, event_length, clause_length, word_length, layout_in, settings_in, counts_in, places_in};
+ghost use Rattle.table.specs.Layout.{head_length, event_length, clause_length, word_length, layout_in, settings_in, counts_in, places_in, word_text};
 ghost use Rattle.table.specs.Read.{EventAt, ClauseAt, WordAt};
 
 use le::{get_u16, get_u32};
@@ -93,6 +93,7 @@ pub struct WordRow {
 }
 
 // The number with which t begins.
+#[tactic(auto, unfolding(crate::specs::Layout::layout_in))]
 pub fn read_layout(t: &[u8]) -> u32
     requires { head_length ≤ length t.now }
     ensures { result ≡ layout_in t.now }
@@ -101,6 +102,7 @@ pub fn read_layout(t: &[u8]) -> u32
 }
 
 // The settings in the header of t.
+#[tactic(auto, unfolding(crate::specs::Layout::settings_in))]
 pub fn read_settings(t: &[u8]) -> Settings
     requires { head_length ≤ length t.now }
     ensures { result ≡ settings_in t.now }
@@ -115,6 +117,7 @@ pub fn read_settings(t: &[u8]) -> Settings
 }
 
 // The counts in the header of t.
+#[tactic(auto, unfolding(crate::specs::Layout::counts_in))]
 pub fn read_counts(t: &[u8]) -> Counts
     requires { head_length ≤ length t.now }
     ensures { result ≡ counts_in t.now }
@@ -130,6 +133,7 @@ pub fn read_counts(t: &[u8]) -> Counts
 }
 
 // The places in the header of t.
+#[tactic(auto, unfolding(crate::specs::Layout::places_in))]
 pub fn read_places(t: &[u8]) -> Places
     requires { head_length ≤ length t.now }
     ensures { result ≡ places_in t.now }
@@ -148,6 +152,7 @@ pub fn read_places(t: &[u8]) -> Places
 }
 
 // Event number i of the rows.
+#[tactic(auto, using(crate::proofs::Rows::event_is))]
 pub fn event_at(rows: &[u8], i: usize) -> EventRow
     requires { event_length * i + event_length ≤ length rows.now }
     ensures { EventAt rows.now i result }
@@ -164,6 +169,7 @@ pub fn event_at(rows: &[u8], i: usize) -> EventRow
 }
 
 // Clause number i of the rows.
+#[tactic(auto, using(crate::proofs::Rows::clause_is))]
 pub fn clause_at(rows: &[u8], i: usize) -> ClauseRow
     requires { clause_length * i + clause_length ≤ length rows.now }
     ensures { ClauseAt rows.now i result }
@@ -180,6 +186,7 @@ pub fn clause_at(rows: &[u8], i: usize) -> ClauseRow
 }
 
 // Key or value number i of the rows.
+#[tactic(auto, using(crate::proofs::Rows::word_is))]
 pub fn word_at(rows: &[u8], i: usize) -> WordRow
     requires { word_length * i + word_length ≤ length rows.now }
     ensures { WordAt rows.now i result }
@@ -191,4 +198,14 @@ pub fn word_at(rows: &[u8], i: usize) -> WordRow
         rank: get_u16(rows, p + 4),
         order: get_u16(rows, p + 6),
     }
+}
+
+// The text of a key or a value among the texts.
+#[tactic(auto, using(le::proofs::Laws::part_lent), unfolding(crate::specs::Layout::word_text))]
+pub fn word_text(texts: &[u8], w: WordRow) -> &[u8]
+    requires { w.at + w.len ≤ length texts.now }
+    ensures { result.now ≡ word_text texts.now w }
+{
+    let at = w.at as usize;
+    &texts[at..at + w.len as usize]
 }

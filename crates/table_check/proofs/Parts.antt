@@ -31,8 +31,8 @@ use Rattle.table_check.proofs.Spans.{names-clean, words-clean}
 pub headed_as : (t : List ℕ) {c : Counts} {p : Places} → head_ok t ≡ true → c ≡ counts_in t → p ≡ places_in t → Headed t c p
 headed_as t e q r = rw (q, r) (headed t e)
 
-pub head-long : (t : List ℕ) → head_ok t ≡ true → head_length ≤ length t
-head-long t e = omega (arith, (headed t e).size)
+pub head_long : (t : List ℕ) → head_ok t ≡ true → head_length ≤ length t
+head_long t e = omega (arith, (headed t e).size)
 
 -- ---- as they are lent
 
@@ -143,11 +143,11 @@ neither true = refl
 neither false = refl
 
 module _ (t : List ℕ) where
-  pub table_head : head_ok t ≡ false → false ≡ is_table t
+  pub table_head : head_ok t ≡ false → is_table t ≡ false
   unfolding is_table
   table_head e = rw e
 
-  pub table_texts : texts_ok (parts_in t) ≡ false → false ≡ is_table t
+  table_texts : texts_ok (parts_in t) ≡ false → false ≡ is_table t
   unfolding is_table
   table_texts e = go (parts_ok (parts_in t)) refl
     where
@@ -156,13 +156,22 @@ module _ (t : List ℕ) where
       go false k = rw k (neither (head_ok t))
 
   -- group number i of the conditions on the parts fails
-  pub table_parts : (i : ℕ) → get_or (groups (parts_in t)) i true ≡ false → false ≡ is_table t
+  table_parts : (i : ℕ) → get_or (groups (parts_in t)) i true ≡ false → false ≡ is_table t
   unfolding is_table
   table_parts i e = rw (parts_grouped (parts_in t), ← broken _ i e) (neither (head_ok t))
 
-  pub table_last : head_ok t ≡ true → texts_ok (parts_in t) ≡ true → rows_ok (parts_in t) ≡ true → {x : Bool} → x ≡ vocabulary_ok (parts_in t) → x ≡ is_table t
+  table_last : head_ok t ≡ true → texts_ok (parts_in t) ≡ true → rows_ok (parts_in t) ≡ true → {x : Bool} → x ≡ vocabulary_ok (parts_in t) → x ≡ is_table t
   unfolding is_table texts_ok all_of
   table_last e f g h =
       let n = every_cons clean (parts_in t).name _ f in
       let s = every_cons clean (parts_in t).symbol _ n.1 in
       rw (e, parts_grouped (parts_in t), n.0, s.0) (decided (refl also g also none_left) h)
+
+  -- where the header is right, the three tests decide
+  pub table_is : head_ok t ≡ true → is_table t ≡ (texts_ok (parts_in t) && rows_ok (parts_in t) && vocabulary_ok (parts_in t))
+  table_is e = go (texts_ok (parts_in t)) (rows_ok (parts_in t)) refl refl
+    where
+      go : (x y : Bool) → texts_ok (parts_in t) ≡ x → rows_ok (parts_in t) ≡ y → is_table t ≡ (x && y && vocabulary_ok (parts_in t))
+      go true true f g = sym (table_last e f g refl)
+      go true false f g = sym (table_parts 1 g)
+      go false y f g = sym (table_texts f)

@@ -26,21 +26,12 @@ fn rows_ok(t: &[u8], c: Counts, p: Places) -> bool
     requires t_value { texts_ok (parts_in t.now) ≡ true }
     ensures { result ≡ rows_ok (parts_in t.now) }
 {
-    let events = p.events as usize;
-    let clauses = p.clauses as usize;
-    let keys = p.keys as usize;
-    let names = p.names as usize;
-    let keytexts = p.keytexts as usize;
+    let events = &t[p.events as usize..p.clauses as usize];
+    let clauses = &t[p.clauses as usize..p.keys as usize];
+    let names = &t[p.names as usize..p.keytexts as usize];
     let n = c.clauses as usize;
-    if !events_ok(
-        &t[events..clauses],
-        &t[names..keytexts],
-        c.events as usize,
-        n,
-    ) {
-        return false;
-    }
-    clauses_ok(&t[clauses..keys], n, c.keys as usize, c.values as usize)
+    events_ok(events, names, c.events as usize, n)
+        && clauses_ok(clauses, n, c.keys as usize, c.values as usize)
 }
 
 // Whether the keys and the values are right, where the header and the texts are.
@@ -49,29 +40,16 @@ fn vocabulary_ok(t: &[u8], c: Counts, p: Places) -> bool
     requires t_value { texts_ok (parts_in t.now) ≡ true }
     ensures { result ≡ vocabulary_ok (parts_in t.now) }
 {
-    let keys = p.keys as usize;
-    let values = p.values as usize;
-    let texts = p.texts as usize;
-    let keytexts = p.keytexts as usize;
-    let valuetexts = p.valuetexts as usize;
-    let used = p.used as usize;
-    if !words_ok(
-        &t[keys..values],
-        &t[keytexts..valuetexts],
-        c.keys as usize,
-        KEY_PARTS,
-    ) {
-        return false;
-    }
-    words_ok(
-        &t[values..texts],
-        &t[valuetexts..used],
-        c.values as usize,
-        VALUE_PARTS,
-    )
+    let keys = &t[p.keys as usize..p.values as usize];
+    let values = &t[p.values as usize..p.texts as usize];
+    let keytexts = &t[p.keytexts as usize..p.valuetexts as usize];
+    let valuetexts = &t[p.valuetexts as usize..p.used as usize];
+    words_ok(keys, keytexts, c.keys as usize, KEY_PARTS)
+        && words_ok(values, valuetexts, c.values as usize, VALUE_PARTS)
 }
 
 // Whether t is a table.
+#[tactic(auto, using(crate::proofs::Parts::headed_as, crate::proofs::Parts::head_long, crate::proofs::Parts::table_head, crate::proofs::Parts::table_is))]
 pub fn is_table(t: &[u8]) -> bool
     ensures { result ≡ is_table t.now }
 {
@@ -80,11 +58,5 @@ pub fn is_table(t: &[u8]) -> bool
     }
     let c = read_counts(t);
     let p = read_places(t);
-    if !texts_ok(t, c, p) {
-        return false;
-    }
-    if !rows_ok(t, c, p) {
-        return false;
-    }
-    vocabulary_ok(t, c, p)
+    texts_ok(t, c, p) && rows_ok(t, c, p) && vocabulary_ok(t, c, p)
 }

@@ -1,4 +1,3 @@
 -- The laws of the check of events, and worked examples.
 pub mod Events
 mod Examples
-pub mod Opened

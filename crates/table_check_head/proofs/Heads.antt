@@ -1,9 +1,6 @@
--- The tests of a header: counts that are in range, and the place behind two texts. Assumes nothing.
-use Prim.Native.Nat.{ℕ, ◌+◌}
-use native.Mathlib.Omega.{arith}
+-- The tests of a header: counts that are in range. Assumes nothing.
 use mathlib.Core.Bool.{true}
 use mathlib.Core.Path.{◌≡◌}
-use lib.Dec.{eqb}
 use borrow.Author.Tests.{leb-true}
 use Rattle.text.proofs.Conditions.{fact}
 use Rattle.table.specs.Table.{counts_ok}
@@ -20,8 +17,3 @@ few c e = record {
   name = leb-true _ _ (fact _ e 4);
   symbol = leb-true _ _ (fact _ e 5);
 }
-
-pub behind-both : (a m n b : ℕ) → eqb b (a + m + n) ≡ eqb b (a + (m + n))
-behind-both a m n b =
-    let e : a + m + n ≡ a + (m + n) = omega arith in
-    rw e

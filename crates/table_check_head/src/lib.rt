@@ -15,44 +15,28 @@ use table::{
 };
 
 // Whether the settings are in range.
+#[tactic(auto, unfolding(text::specs::Conditions::all_of, table::specs::Table::settings_ok))]
 fn settings_ok(s: Settings) -> bool
     ensures { result ≡ settings_ok s }
 {
-    if INTERVAL_LIMIT < s.interval as u64 {
-        return false;
-    }
-    if TIMEOUT_LIMIT < s.timeout as u64 {
-        return false;
-    }
-    if STOP_LIMIT < s.stop as u64 {
-        return false;
-    }
-    if T0_LIMIT < s.t0 as u64 {
-        return false;
-    }
-    s.evening as u64 <= EVENING_LIMIT
+    s.interval as u64 <= INTERVAL_LIMIT
+        && s.timeout as u64 <= TIMEOUT_LIMIT
+        && s.stop as u64 <= STOP_LIMIT
+        && s.t0 as u64 <= T0_LIMIT
+        && s.evening as u64 <= EVENING_LIMIT
 }
 
 // Whether the counts are in range.
+#[tactic(auto, unfolding(text::specs::Conditions::all_of, table::specs::Table::counts_ok))]
 fn counts_ok(c: Counts) -> bool
     ensures { result ≡ counts_ok c }
 {
-    if EVENT_LIMIT < c.events as usize {
-        return false;
-    }
-    if CLAUSE_LIMIT < c.clauses as usize {
-        return false;
-    }
-    if CLAUSE_LIMIT < c.keys as usize {
-        return false;
-    }
-    if 3 * CLAUSE_LIMIT < c.values as usize {
-        return false;
-    }
-    if NAME_LIMIT < c.name as usize {
-        return false;
-    }
-    c.symbol as usize <= NAME_LIMIT
+    c.events as usize <= EVENT_LIMIT
+        && c.clauses as usize <= CLAUSE_LIMIT
+        && c.keys as usize <= CLAUSE_LIMIT
+        && c.values as usize <= 3 * CLAUSE_LIMIT
+        && c.name as usize <= NAME_LIMIT
+        && c.symbol as usize <= NAME_LIMIT
 }
 
 // Whether a and n bytes more end at b.
@@ -64,56 +48,31 @@ fn ends_at(a: u32, n: usize, b: u32) -> bool
 }
 
 // Whether the places follow each other.
+#[tactic(auto, unfolding(text::specs::Conditions::all_of, table::specs::Table::places_ok))]
 fn places_ok(c: Counts, p: Places) -> bool
     requires { Few c }
     ensures { result ≡ places_ok c p }
 {
-    if p.events as usize != HEAD_LENGTH {
-        return false;
-    }
-    if !ends_at(p.events, EVENT_LENGTH * (c.events as usize), p.clauses) {
-        return false;
-    }
-    if !ends_at(p.clauses, CLAUSE_LENGTH * (c.clauses as usize), p.keys) {
-        return false;
-    }
-    if !ends_at(p.keys, WORD_LENGTH * (c.keys as usize), p.values) {
-        return false;
-    }
-    if !ends_at(p.values, WORD_LENGTH * (c.values as usize), p.texts) {
-        return false;
-    }
-    if !ends_at(p.texts, c.name as usize + c.symbol as usize, p.names) {
-        return false;
-    }
-    if p.keytexts < p.names {
-        return false;
-    }
-    if p.valuetexts < p.keytexts {
-        return false;
-    }
-    if p.used < p.valuetexts {
-        return false;
-    }
-    p.used as usize <= TABLE_LENGTH
+    p.events as usize == HEAD_LENGTH
+        && ends_at(p.events, EVENT_LENGTH * c.events as usize, p.clauses)
+        && ends_at(p.clauses, CLAUSE_LENGTH * c.clauses as usize, p.keys)
+        && ends_at(p.keys, WORD_LENGTH * c.keys as usize, p.values)
+        && ends_at(p.values, WORD_LENGTH * c.values as usize, p.texts)
+        && ends_at(p.texts, c.name as usize + c.symbol as usize, p.names)
+        && p.names <= p.keytexts
+        && p.keytexts <= p.valuetexts
+        && p.valuetexts <= p.used
+        && p.used as usize <= TABLE_LENGTH
 }
 
 // Whether the header of t is right.
+#[tactic(auto, using(crate::proofs::Heads::few), unfolding(text::specs::Conditions::all_of, table::specs::Table::head_ok))]
 pub fn head_ok(t: &[u8]) -> bool
     ensures { result ≡ head_ok t.now }
 {
-    if t.len() != TABLE_LENGTH {
-        return false;
-    }
-    if read_layout(t) != LAYOUT_NUMBER {
-        return false;
-    }
-    if !settings_ok(read_settings(t)) {
-        return false;
-    }
-    let c = read_counts(t);
-    if !counts_ok(c) {
-        return false;
-    }
-    places_ok(c, read_places(t))
+    t.len() == TABLE_LENGTH
+        && read_layout(t) == LAYOUT_NUMBER
+        && settings_ok(read_settings(t))
+        && counts_ok(read_counts(t))
+        && places_ok(read_counts(t), read_places(t))
 }

@@ -10,19 +10,11 @@ use table::{Counts, Places};
 use table_words::{is_clean, is_cut};
 
 // Whether s may be cut at each of four places.
+#[tactic(auto, unfolding(text::specs::Conditions::all_of))]
 fn cuts_ok(s: &[u8], symbol: usize, names: usize, keytexts: usize, valuetexts: usize) -> bool
     ensures { result ≡ all_cut s.now (symbol ∷ names ∷ keytexts ∷ valuetexts ∷ []) }
 {
-    if !is_cut(s, symbol) {
-        return false;
-    }
-    if !is_cut(s, names) {
-        return false;
-    }
-    if !is_cut(s, keytexts) {
-        return false;
-    }
-    is_cut(s, valuetexts)
+    is_cut(s, symbol) && is_cut(s, names) && is_cut(s, keytexts) && is_cut(s, valuetexts)
 }
 
 // Whether the texts are clean, where the header is right: the position's, the events' names, the keys, the values. They follow each other, so that
@@ -31,20 +23,14 @@ pub fn texts_ok(t: &[u8], c: Counts, p: Places) -> bool
     requires { Headed t.now c p }
     ensures { result ≡ texts_ok (parts_in t.now) }
 {
-    let texts = p.texts as usize;
-    let names = p.names as usize;
-    let keytexts = p.keytexts as usize;
-    let valuetexts = p.valuetexts as usize;
-    let used = p.used as usize;
-    let symbol = c.name as usize;
-    if !is_clean(&t[texts..used]) {
-        return false;
-    }
-    cuts_ok(
-        &t[texts..used],
-        symbol,
-        names - texts,
-        keytexts - texts,
-        valuetexts - texts,
-    )
+    let start = p.texts as usize;
+    let texts = &t[start..p.used as usize];
+    is_clean(texts)
+        && cuts_ok(
+            texts,
+            c.name as usize,
+            p.names as usize - start,
+            p.keytexts as usize - start,
+            p.valuetexts as usize - start,
+        )
 }

@@ -6,16 +6,14 @@ use mathlib.Core.List.{List, [], ◌∷◌}
 use mathlib.Core.Path.{◌≡◌, refl, sym, ap, ◌∙◌}
 use lib.Dec.{ltb, eqb}
 use lib.ListN.{length, get_or, drop, length-map}
-use borrow.Author.Tests.{lt-ltb, le-ltb, ltb-true}
+use borrow.Author.Tests.{ltb-true}
 use Rattle.list.proofs.Laws.{rows-length}
 use Rattle.text.specs.Conditions.{all_of, every}
-use Rattle.text.proofs.Conditions.{◌also◌, none_left}
 use Rattle.table_words.specs.Words.{ranked}
 use Rattle.table.specs.Layout.{word_length, word_in, word_text}
-use Rattle.table.specs.Read.{WordAt}
 use Rattle.table.specs.declared.WordRow.{WordRow}
 use Rattle.table_check_words.specs.Check.{word_at, word_rows, texts_of, orders_of, ranks_of, rank_asked, ranks_from}
-use Rattle.text.proofs.Tested.{broken, decided}
+use Rattle.text.proofs.Tested.{broken}
 use Rattle.table.proofs.Walks.{rows_more, rows_end, map_at}
 
 -- ---- words by their numbers
@@ -29,18 +27,6 @@ module _ (l : List ℕ) (n : ℕ) where
 
   pub text_at : (texts : List ℕ) (j : ℕ) → j < n → get_or (texts_of texts (word_rows n l)) j [] ≡ word_text texts (word_at l j)
   text_at texts j h = map_at (word_text texts) word_in word_length n l j [] h
-
--- ---- `rank_ok`
-
-module _ {l : List ℕ} {i : ℕ} {w : WordRow} (r : WordAt l i w) (n : ℕ) where
-  pub rank-high : n ≤ w.order → false ≡ all_of (rank_asked l n i)
-  rank-high e = rw (← r.is) (broken _ 0 (le-ltb _ _ e))
-
-  pub rank_far : n ≤ w.rank → false ≡ all_of (rank_asked l n i)
-  rank_far e = rw (← r.is) (broken _ 1 (le-ltb _ _ e))
-
-  pub rank-last : w.order < n → w.rank < n → {v : WordRow} → WordAt l w.rank v → eqb v.order i ≡ all_of (rank_asked l n i)
-  rank-last a b q = rw (← r.is, ← q.is) (decided (lt-ltb _ _ a also lt-ltb _ _ b also none_left) refl)
 
 -- ---- `ranks_ok`
 

@@ -3,43 +3,30 @@ use Prim.Native.Nat.{ℕ, suc, ◌+◌, ◌-◌, ◌≤◌, ◌<◌}
 use native.Mathlib.Omega.{arith}
 use mathlib.Core.Bool.{Bool, true, false, cond, ◌&&◌}
 use mathlib.Core.List.{List, [], ◌∷◌}
-use mathlib.Core.Path.{◌≡◌, refl, sym, ap, ◌∙◌}
-use lib.ListN.{length, take, drop, length-drop}
+use mathlib.Core.Path.{◌≡◌, refl, sym, ◌∙◌}
+use lib.ListN.{length, drop, length-drop}
 use lib.Seq.{drop-cons}
+use Rattle.std.specs.Ordering.{is_lt}
+use Rattle.std.specs.declared.cmp.Ordering.TheVariants.{Less, Equal, Greater}
 use Rattle.text.specs.Text.{same}
 use Rattle.table_words.specs.Words.{less, ascending}
 use Rattle.table_words_order.specs.Read.{order_of}
-use Rattle.table_words_order.specs.declared.Order.{Order}
-use Rattle.table_words_order.specs.declared.Order.TheVariants.{Less, Same, More}
 use Rattle.table.specs.Layout.{word_text}
 use Rattle.table.specs.Read.{WordAt}
 use Rattle.table.specs.declared.WordRow.{WordRow}
-use Rattle.table_check_words.specs.Check.{word_at, word_rows, texts_of, orders_of, Inside}
-use Rattle.table_check_words.proofs.Words.{text_lent}
+use Rattle.table_check_words.specs.Check.{word_rows, texts_of, orders_of, Inside}
 use Rattle.table_check_words.proofs.Ranks.{orders-many, order-at, text_at}
 
 -- ---- `precedes`
 
-abbrev pub is_less : Order → Bool
-is_less Less = true
-is_less Same = false
-is_less More = false
-
-order-less : (a b : List ℕ) → is_less (order_of a b) ≡ less a b
+pub order_less : (a b : List ℕ) → is_lt (order_of a b) ≡ less a b
 unfolding order_of
-order-less a b = go (less a b) (same a b)
+order_less a b = go (less a b) (same a b)
   where
-    go : (p q : Bool) → is_less (cond p Less (cond q Same More)) ≡ p
+    go : (p q : Bool) → is_lt (cond p Less (cond q Equal Greater)) ≡ p
     go true q = refl
     go false true = refl
     go false false = refl
-
-module _ {l : List ℕ} {a b : ℕ} {v w : WordRow} (p : WordAt l a v) (q : WordAt l b w) (texts : List ℕ) where
-  pub precedes_is : {o : Order} → o ≡ order_of (take (v.at + v.len - v.at) (drop v.at texts)) (take (w.at + w.len - w.at) (drop w.at texts))
-      → (k : Order) → o ≡ k → is_less k ≡ less (word_text texts (word_at l a)) (word_text texts (word_at l b))
-  precedes_is e k f =
-      ap is_less (sym f ∙ e) ∙ order-less (take (v.at + v.len - v.at) (drop v.at texts)) (take (w.at + w.len - w.at) (drop w.at texts))
-      ∙ rw (text_lent texts v, text_lent texts w, p.is, q.is)
 
 module _ {l texts : List ℕ} {n : ℕ} (s : Inside l texts n) {j : ℕ} (h : j < n) {w : WordRow} (r : WordAt l j w) where
   pub inside-text : w.at + w.len ≤ length texts
@@ -70,7 +57,8 @@ module _ {l texts : List ℕ} {n i : ℕ} (r : Rising l texts n i) where
       let k = length-drop (i - 1) (orders_of (word_rows n l)) in
       sym (r.still ∙ few_ascend (texts_of texts (word_rows n l)) (drop (i - 1) (orders_of (word_rows n l))) (omega (arith, k, orders-many l n)))
 
-  module _ (inside : Inside l texts n) (h : i < n) {v w : WordRow} (p : WordAt l (i - 1) v) (q : WordAt l i w) where
+  module _ (inside : Inside l texts n) (h : i < n) {v w : WordRow} (p : WordAt l (i - 1) v) (q : WordAt l i w)
+      {x y : WordRow} (px : WordAt l v.order x) (py : WordAt l w.order y) where
     abbrev os : List ℕ
     os = orders_of (word_rows n l)
 
@@ -85,7 +73,7 @@ module _ {l texts : List ℕ} {n i : ℕ} (r : Rising l texts n i) where
         let e : suc (i - 1) ≡ i = omega (arith, r.begun) in
         drop-cons os (i - 1) 0 (omega (arith, orders-many l n)) ∙ rw (e, order-at l n (i - 1) (omega arith), ← p.is)
 
-    turn : ascending ts os ≡ (less (word_text texts (word_at l v.order)) (word_text texts (word_at l w.order)) && ascending ts (drop i os))
+    turn : ascending ts os ≡ (less (word_text texts x) (word_text texts y) && ascending ts (drop i os))
     unfolding ascending
     turn =
         r.still ∙ rw (
@@ -93,12 +81,14 @@ module _ {l texts : List ℕ} {n i : ℕ} (r : Rising l texts n i) where
           rest,
           text_at l n texts v.order (inside-order inside (omega arith) p),
           text_at l n texts w.order (inside-order inside h q),
+          px.is,
+          py.is,
         )
 
-    pub rising_off : false ≡ less (word_text texts (word_at l v.order)) (word_text texts (word_at l w.order)) → false ≡ ascending ts os
+    pub rising_off : false ≡ less (word_text texts x) (word_text texts y) → false ≡ ascending ts os
     rising_off e = sym (turn ∙ rw (← e))
 
-    pub rising-more : true ≡ less (word_text texts (word_at l v.order)) (word_text texts (word_at l w.order)) → Rising l texts n (i + 1)
+    pub rising-more : true ≡ less (word_text texts x) (word_text texts y) → Rising l texts n (i + 1)
     rising-more e =
         let k : i + 1 - 1 ≡ i = omega arith in
         record { begun = omega arith; still = turn ∙ rw (← e, k) }

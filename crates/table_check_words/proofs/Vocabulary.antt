@@ -1,7 +1,7 @@
 -- The keys, or the values, of a table: what `words_ok` concludes from their texts, ranks and orders. Assumes nothing.
 use Prim.Native.Nat.{ℕ, ◌*◌, ◌≤◌}
 use native.Mathlib.Omega.{arith}
-use mathlib.Core.Bool.{Bool, true, false, false≢true}
+use mathlib.Core.Bool.{Bool, true, false, ◌&&◌, false≢true}
 use mathlib.Core.List.{List, [], ◌∷◌}
 use mathlib.Core.Path.{◌≡◌, refl, sym, ◌∙◌}
 use lib.Dec.{ltb}
@@ -58,7 +58,7 @@ module _ (l texts : List ℕ) (n limit : ℕ) where
   unlaid true false d o e = refl
   unlaid false b d o e = refl
 
-  pub words_unlaid : laid limit texts 0 ws ≡ false → false ≡ words_ok limit texts ws
+  words_unlaid : laid limit texts 0 ws ≡ false → false ≡ words_ok limit texts ws
   unfolding laid words_ok
   words_unlaid e = unlaid _ _ _ _ e
 
@@ -68,7 +68,7 @@ module _ (l texts : List ℕ) (n limit : ℕ) where
   unranked true false c e = refl
   unranked false b c e = refl
 
-  pub words_unranked : ranks_from os 0 ws ≡ false → false ≡ words_ok limit texts ws
+  words_unranked : ranks_from os 0 ws ≡ false → false ≡ words_ok limit texts ws
   unfolding ranks_from words_ok ordered
   words_unranked e = broken _ 3 (unranked _ _ _ (rw orders-same e))
 
@@ -83,6 +83,14 @@ module _ (l texts : List ℕ) (n limit : ℕ) where
   last true false d x y z e f h = absurd (false≢true e)
   last false b d x y z e f h = absurd (false≢true e)
 
-  pub words-rest : laid limit texts 0 ws ≡ true → ranks_from os 0 ws ≡ true → {r : Bool} → r ≡ ascending (texts_of texts ws) os → r ≡ words_ok limit texts ws
+  words-rest : laid limit texts 0 ws ≡ true → ranks_from os 0 ws ≡ true → {r : Bool} → r ≡ ascending (texts_of texts ws) os → r ≡ words_ok limit texts ws
   unfolding laid ranks_from words_ok ordered
   words-rest e f h = h ∙ last _ _ _ _ _ _ e (rw orders-same f) (λ o. apart (texts_of texts ws) os (ranks_of ws) o (ranks-many ∙ sym texts-many))
+
+  pub words_split : words_ok limit texts ws ≡ (laid limit texts 0 ws && ranks_from os 0 ws && ascending (texts_of texts ws) os)
+  words_split = go (laid limit texts 0 ws) (ranks_from os 0 ws) refl refl
+    where
+      go : (p q : Bool) → laid limit texts 0 ws ≡ p → ranks_from os 0 ws ≡ q → words_ok limit texts ws ≡ (p && q && ascending (texts_of texts ws) os)
+      go true true e f = sym (words-rest e f refl)
+      go true false e f = sym (words_unranked f)
+      go false q e f = sym (words_unlaid e)

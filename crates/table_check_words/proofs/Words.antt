@@ -1,19 +1,20 @@
 -- A walk over keys or values: where their texts lie, what `word_fits` answers, and the invariant of `words_laid`. Assumes nothing.
-use Prim.Native.Nat.{ℕ, ◌+◌, ◌-◌, ◌*◌, ◌≤◌, ◌<◌}
+use Prim.Native.Nat.{ℕ, ◌+◌, ◌*◌, ◌≤◌, ◌<◌}
 use native.Mathlib.Omega.{arith}
-use mathlib.Core.Bool.{Bool, true, false, cond}
+use mathlib.Core.Bool.{Bool, true, false, cond, ◌&&◌}
 use mathlib.Core.List.{List, [], ◌∷◌}
-use mathlib.Core.Path.{◌≡◌, refl, sym, ap, ◌∙◌}
+use mathlib.Core.Path.{◌≡◌, refl, sym, ◌∙◌}
 use lib.Dec.{leb, eqb}
-use lib.ListN.{length, take, drop}
+use lib.ListN.{length, drop}
 use borrow.Author.Tests.{eqb-true, leb-false}
-use Rattle.le.proofs.Laws.{part_lent}
+use Rattle.le.specs.Le.{part}
 use Rattle.text.specs.Conditions.{all_of, every}
 use Rattle.text.specs.Text.{split, underscore}
 use Rattle.text.proofs.Conditions.{fact}
 use Rattle.table_words.specs.Words.{clean, word_ok}
 use Rattle.table_words.specs.Read.{is_cut}
-use Rattle.table_words_parts.specs.Read.{fit}
+use Rattle.table_words_parts.specs.Read.{fit, paired}
+use Rattle.table_words_parts.proofs.Tame.{part_tame}
 use Rattle.table_words.proofs.Cut.{part-clean, rest-clean}
 use Rattle.table.specs.Layout.{word_length, word_in, word_text}
 use Rattle.table.specs.Table.{follow}
@@ -24,36 +25,28 @@ use Rattle.table_check_words.specs.Check.{word_rows, texts_of, word_asked, laid}
 use Rattle.text.proofs.Tested.{broken}
 use Rattle.table.proofs.Walks.{rows_more, rows_end}
 
--- a text as it is lent
-pub text_lent : (texts : List ℕ) (w : WordRow) → take (w.at + w.len - w.at) (drop w.at texts) ≡ word_text texts w
-unfolding word_text
-text_lent texts w = part_lent texts w.at w.len
-
 -- ---- `word_fits`
 
-module _ (n : ℕ) (texts : List ℕ) (w : WordRow) (f : ℕ) (clear : clean (drop f texts) ≡ true) where
-  here : w.at ≡ f → clean (drop w.at texts) ≡ true
-  here e = rw e clear
+-- in clean texts a word is right where it may be cut off and its parts are right
+pub word_cut : (n : ℕ) (texts : List ℕ) (w : WordRow) → clean (drop w.at texts) ≡ true
+    → word_ok n (word_text texts w) ≡ (is_cut (drop (w.at + w.len) texts) && fit n (split underscore (word_text texts w)))
+unfolding word_ok word_text all_of
+word_cut n texts w e = rw (part-clean texts w.at w.len e) (go (is_cut (drop (w.at + w.len) texts)))
+  where
+    go : (b : Bool) → cond b (fit n (split underscore (part texts w.at w.len))) false ≡ (b && fit n (split underscore (part texts w.at w.len)))
+    go true = refl
+    go false = refl
 
-  -- a word that may not be cut off
-  pub word_uncut : w.at ≡ f → is_cut (drop (w.at + w.len) texts) ≡ false → word_ok n (word_text texts w) ≡ false
-  unfolding word_ok word_text
-  word_uncut e k = sym (broken _ 0 (part-clean texts w.at w.len (here e) ∙ k))
+-- a word of tame texts is tame
+pub word_tame : (texts : List ℕ) (w : WordRow) → paired texts ≡ false → paired (word_text texts w) ≡ false
+unfolding word_text part
+word_tame texts w e = part_tame texts w.at w.len e
 
-  word-clean : w.at ≡ f → is_cut (drop (w.at + w.len) texts) ≡ true → clean (word_text texts w) ≡ true
-  unfolding word_text
-  word-clean e k = part-clean texts w.at w.len (here e) ∙ k
-
-  -- a word that may be: its parts decide
-  pub word-parts : w.at ≡ f → is_cut (drop (w.at + w.len) texts) ≡ true → {r : Bool} → r ≡ fit n (split underscore (take (w.at + w.len - w.at) (drop w.at texts)))
-      → r ≡ word_ok n (word_text texts w)
-  unfolding word_ok all_of
-  word-parts e k h = rw (word-clean e k) (h ∙ ap (λ l. fit n (split underscore l)) (text_lent texts w))
-
-  -- behind a word that is right the texts are still clean
-  pub behind-word : all_of (word_asked n texts w f) ≡ true → clean (drop (w.at + w.len) texts) ≡ true
-  unfolding word_ok word_text
-  behind-word e = rest-clean texts w.at w.len (here (eqb-true w.at f (fact _ e 0))) (fact _ (fact _ e 2) 0)
+-- behind a word that is right the texts are still clean
+behind-word : (n : ℕ) (texts : List ℕ) (w : WordRow) (f : ℕ) → clean (drop f texts) ≡ true → all_of (word_asked n texts w f) ≡ true
+    → clean (drop (w.at + w.len) texts) ≡ true
+unfolding word_ok word_text
+behind-word n texts w f clear e = rest-clean texts w.at w.len (rw (eqb-true w.at f (fact _ e 0)) clear) (fact _ (fact _ e 2) 0)
 
 -- ---- `words_laid`
 

@@ -2,84 +2,66 @@
 use Prim.Native.Nat.{ℕ, suc, ◌+◌, ◌<◌, ◌≤◌}
 use native.Mathlib.Omega.{arith}
 use native.Mathlib.Numerals.{add-one}
-use mathlib.Core.Path.{◌≡◌, refl, sym, ap₂, ◌∙◌}
+use mathlib.Core.Path.{◌≡◌, refl, sym, ap, ap₂, ◌∙◌}
 use mathlib.Core.List.{List, [], ◌∷◌, ◌++◌}
 use lib.ListN.{length, get_or, set, take, drop, length-set, drop_of_length-le}
 use lib.Seq.{take-suc-set, take_all}
 use Rattle.list.specs.Numbered.{numbered}
 use Rattle.utf8.specs.Alone.{text_limit}
 use Rattle.text.proofs.Joined.{total, total_next}
-use Rattle.table_wordbook.specs.Wordbook.{words_at}
-use Rattle.table_wordbook.specs.declared.Noted.{Noted}
-use Rattle.table_wordbook.proofs.Books.{book-empty}
+use Rattle.table_wordbook.specs.Wordbook.{words_at, words_length}
+use Rattle.table_wordbook.specs.declared.Words.{Words}
 use Rattle.table_codes.specs.Read.{Room, Open, Added, Filled}
 
 -- i of the m words ks are noted; `all` says which words are then in the book, and `codes` which numbers they have
 pub record Filling (ks : List (List ℕ)) (all : List (List ℕ) → List (List ℕ)) (codes : List (List ℕ) → List ℕ)
-    (texts starts orders ranks numbers texts₁ starts₁ orders₁ ranks₁ numbers₁ : List ℕ) (m i n : ℕ) : Type 0 where
+    (numbers : List ℕ) (b : Words) (numbers₁ : List ℕ) (m i : ℕ) : Type 0 where
   pub le : i ≤ m
-  pub filled : Filled texts starts orders ranks numbers texts₁ starts₁ orders₁ ranks₁ numbers₁ i n (total (drop i ks)) (all (take i ks)) (codes (take i ks))
+  pub filled : Filled numbers b numbers₁ i (total (drop i ks)) (all (take i ks)) (codes (take i ks))
 
-module _ {texts starts orders ranks numbers : List ℕ} {m : ℕ} (room : Room texts starts orders ranks numbers m)
+module _ {b : Words} {numbers : List ℕ} {m : ℕ} (room : Room b numbers m)
     (ks : List (List ℕ)) (all : List (List ℕ) → List (List ℕ)) (codes : List (List ℕ) → List ℕ) where
-  pub filling_first : total ks ≤ text_limit → all [] ≡ [] → codes [] ≡ []
-      → Filling ks all codes texts starts orders ranks numbers texts starts orders ranks numbers m 0 0
+  pub filling_first : total ks ≤ text_limit → all [] ≡ [] → codes [] ≡ [] → Filling ks all codes numbers b numbers m 0
   unfolding words_at numbered
   filling_first h p q = record { le = omega arith; filled = rw (p, q) filled }
     where
-      filled : Filled texts starts orders ranks numbers texts starts orders ranks numbers 0 0 (total ks) [] []
+      no-bytes : words_length b ≡ 0
+      no-bytes = ap (λ (n : ℕ). get_or b.starts n 0) room.empty ∙ room.book.first
+
+      filled : Filled numbers b numbers 0 (total ks) [] []
       filled = record {
-        book = book-empty texts starts orders ranks room.first (omega (arith, room.starts-room));
-        words = refl;
+        book = room.book;
+        words = ap (λ (n : ℕ). words_at b.texts b.starts n) room.empty;
         are = refl;
-        few = omega arith;
-        end = omega (arith, room.first, h);
-        lengths = record { texts-length = refl; starts-length = refl; orders-length = refl; ranks-length = refl };
+        few = omega (arith, room.empty);
+        end = omega (arith, h, no-bytes);
         numbers_length = refl;
       }
 
-  module _ {texts₁ starts₁ orders₁ ranks₁ numbers₁ : List ℕ} {i n : ℕ}
-      (f : Filling ks all codes texts starts orders ranks numbers texts₁ starts₁ orders₁ ranks₁ numbers₁ m i n) where
+  module _ {b₁ : Words} {numbers₁ : List ℕ} {i : ℕ} (f : Filling ks all codes numbers b₁ numbers₁ m i) where
     -- room for the next
-    pub filling_open : i < m → {size : ℕ} → get_or starts₁ n 0 + size ≤ text_limit → Open texts₁ starts₁ orders₁ ranks₁ n size
-    filling_open h k =
-        let l = f.filled.lengths in
-        record {
-          book = f.filled.book;
-          few = omega (arith, room.few, f.filled.few);
-          near = omega (arith, k);
-          texts-room = omega (arith, l.texts-length, room.texts-room);
-          starts-room = omega (arith, l.starts-length, room.starts-room, f.filled.few);
-          orders-room = omega (arith, l.orders-length, room.orders-room, f.filled.few);
-          ranks-room = omega (arith, l.ranks-length, room.ranks-room, f.filled.few);
-        }
+    pub filling_open : i < m → {size : ℕ} → words_length b₁ + size ≤ text_limit → Open b₁ size
+    filling_open h k = record { book = f.filled.book; few = omega (arith, room.few, f.filled.few); near = k }
 
     -- the next, of this number, is noted
-    pub filling_more : {texts₂ starts₂ orders₂ ranks₂ : List ℕ} {number : ℕ} {us : List (List ℕ)} {r : Noted} → i < m
-        → Added texts₁ starts₁ orders₁ ranks₁ texts₂ starts₂ orders₂ ranks₂ n (length (get_or ks i [])) number us r
+    pub filling_more : {b₂ : Words} {r number : ℕ} {us : List (List ℕ)} → i < m → Added b₁ b₂ r (length (get_or ks i [])) number us
         → all (take (suc i) ks) ≡ us → codes (take (suc i) ks) ≡ codes (take i ks) ++ number ∷ []
-        → Filling ks all codes texts starts orders ranks numbers texts₂ starts₂ orders₂ ranks₂ (set numbers₁ i r.number) m (i + 1) r.count
+        → Filling ks all codes numbers b₂ (set numbers₁ i r) m (i + 1)
     filling_more {r = r} h a p q = record {
       le = omega arith;
       filled = rw (add-one i) record {
         book = a.book;
         words = a.words ∙ sym p;
-        are = take-suc-set numbers₁ i r.number (omega (arith, f.filled.numbers_length, room.numbers_room))
+        are = take-suc-set numbers₁ i r (omega (arith, f.filled.numbers_length, room.numbers_room))
             ∙ ap₂ (λ (xs : List ℕ) (x : ℕ). xs ++ x ∷ []) f.filled.are a.is ∙ sym q;
         few = omega (arith, f.filled.few, a.most);
         end = omega (arith, f.filled.end, a.end, total_next ks i);
-        lengths = record {
-          texts-length = a.lengths.texts-length ∙ f.filled.lengths.texts-length;
-          starts-length = a.lengths.starts-length ∙ f.filled.lengths.starts-length;
-          orders-length = a.lengths.orders-length ∙ f.filled.lengths.orders-length;
-          ranks-length = a.lengths.ranks-length ∙ f.filled.lengths.ranks-length;
-        };
-        numbers_length = length-set numbers₁ i r.number ∙ f.filled.numbers_length;
+        numbers_length = length-set numbers₁ i r ∙ f.filled.numbers_length;
       };
     }
 
     -- all are
-    pub filling_last : length ks ≡ m → m ≤ i → Filled texts starts orders ranks numbers texts₁ starts₁ orders₁ ranks₁ numbers₁ m n 0 (all ks) (codes ks)
+    pub filling_last : length ks ≡ m → m ≤ i → Filled numbers b₁ numbers₁ m 0 (all ks) (codes ks)
     unfolding total
     filling_last e h =
         let z : i ≡ m = omega (arith, f.le) in

@@ -141,8 +141,8 @@ module _ (s cs : List ℕ) (j : ℕ) where
       let e : at + (5 + j % 3) ≡ at + 4 + j % 3 + 1 = omega arith in
       get_or-drop at cs (5 + j % 3) 0 ∙ ap (λ (k : ℕ). get_or cs k 0) e
 
-  pub value-stands : RowOk s cs (j / 3) → Stands s cs j (get_or cs (at + 1) 0 + get_or cs before 0 + 1) (get_or cs (at + 1) 0 + get_or cs (before + 1) 0)
-  value-stands r =
+  pub value_stands : RowOk s cs (j / 3) → Stands s cs j (get_or cs (at + 1) 0 + get_or cs before 0 + 1) (get_or cs (at + 1) 0 + get_or cs (before + 1) 0)
+  value_stands r =
       let t = place-order r.clause (j % 3) (omega arith) in
       record {
         part = record {

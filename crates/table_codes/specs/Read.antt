@@ -5,8 +5,8 @@ use Rattle.utf8.specs.Alone.{text_limit}
 use Rattle.sheet.specs.Sheet.{Clause}
 use Rattle.sheet.specs.Places.{clause_numbers, clause_at, ClauseOk}
 use Rattle.table_limits.specs.Fine.{clauses_weight}
-use Rattle.table_wordbook.specs.Wordbook.{number_of, noted, words_at, Book}
-use Rattle.table_wordbook.specs.declared.Noted.{Noted}
+use Rattle.table_wordbook.specs.Wordbook.{number_of, noted, word_limit, BookOf, words_of, words_length}
+use Rattle.table_wordbook.specs.declared.Words.{Words}
 use Rattle.table_parts.specs.Codes.{keys_in, values_in, noted_all, numbers_of, value_noted, code_of, values_noted, codes_of}
 
 -- ---- clauses by their numbers
@@ -33,78 +33,56 @@ pub record RowsOk (s cs : List ℕ) (m : ℕ) : Type 0 where
   pub clauses : (i : ℕ) → i < m → ClauseOk s (drop (clause_numbers * i) cs)
   pub light : clauses_weight (clauses_in s cs m) ≤ text_limit
 
--- ---- buffers
+-- ---- books
 
--- no word yet, and room for m words as long together as a text may be, and for m numbers, which fit two bytes
-pub record Room (texts starts orders ranks numbers : List ℕ) (m : ℕ) : Type 0 where
-  pub first : get_or starts 0 0 ≡ 0
-  pub few : m < 65536
-  pub texts-room : text_limit ≤ length texts
-  pub starts-room : m < length starts
-  pub orders-room : m ≤ length orders
-  pub ranks-room : m ≤ length ranks
+-- a book without words, which has room for m, and buffers that have room for m numbers
+pub record Room (b : Words) (numbers : List ℕ) (m : ℕ) : Type 0 where
+  pub book : BookOf b
+  pub empty : b.count ≡ 0
+  pub few : m ≤ word_limit
   pub numbers_room : m ≤ length numbers
 
--- n words, and room for one more, for which so many bytes are written; its code and its end fit two bytes
-pub record Open (texts starts orders ranks : List ℕ) (n bytes : ℕ) : Type 0 where
-  pub book : Book texts starts orders ranks n
-  pub few : n + 1 < 65536
-  pub near : get_or starts n 0 + bytes < 65536
-  pub texts-room : get_or starts n 0 + bytes ≤ length texts
-  pub starts-room : n + 1 < length starts
-  pub orders-room : n < length orders
-  pub ranks-room : n < length ranks
-
-pub record SameLengths (texts starts orders ranks texts₁ starts₁ orders₁ ranks₁ : List ℕ) : Type 0 where
-  pub texts-length : length texts₁ ≡ length texts
-  pub starts-length : length starts₁ ≡ length starts
-  pub orders-length : length orders₁ ≡ length orders
-  pub ranks-length : length ranks₁ ≡ length ranks
+-- there is room for one word more, of so many bytes
+pub record Open (b : Words) (bytes : ℕ) : Type 0 where
+  pub book : BookOf b
+  pub few : b.count < word_limit
+  pub near : words_length b + bytes ≤ text_limit
 
 -- ---- the answers
 
--- after one more: the words are ws, r has this number, and the texts are longer by so many bytes at most
-pub record Added (texts starts orders ranks texts₁ starts₁ orders₁ ranks₁ : List ℕ) (n bytes number : ℕ) (ws : List (List ℕ)) (r : Noted) : Type 0 where
-  pub book : Book texts₁ starts₁ orders₁ ranks₁ r.count
-  pub words : words_at texts₁ starts₁ r.count ≡ ws
-  pub is : r.number ≡ number
-  pub most : r.count ≤ n + 1
-  pub end : get_or starts₁ r.count 0 ≤ get_or starts n 0 + bytes
-  pub lengths : SameLengths texts starts orders ranks texts₁ starts₁ orders₁ ranks₁
+-- after one more: the words are ws, r is this number, and the texts are longer by so many bytes at most
+pub record Added (b b₁ : Words) (r bytes number : ℕ) (ws : List (List ℕ)) : Type 0 where
+  pub book : BookOf b₁
+  pub words : words_of b₁ ≡ ws
+  pub is : r ≡ number
+  pub most : b₁.count ≤ b.count + 1
+  pub end : words_length b₁ ≤ words_length b + bytes
 
 -- of the key k
-abbrev pub KeyAdded : List ℕ → List ℕ → List ℕ → List ℕ → List ℕ → List ℕ → List ℕ → List ℕ → List ℕ → ℕ → Noted → Type 0
-KeyAdded k texts starts orders ranks texts₁ starts₁ orders₁ ranks₁ n r =
-    let ws = words_at texts starts n in
-    Added texts starts orders ranks texts₁ starts₁ orders₁ ranks₁ n (length k) (number_of k ws) (noted k ws) r
+abbrev pub KeyAdded : List ℕ → Words → Words → ℕ → Type 0
+KeyAdded k b b₁ r = Added b b₁ r (length k) (number_of k (words_of b)) (noted k (words_of b))
 
 -- of the value v
-abbrev pub ValueAdded : List ℕ → List ℕ → List ℕ → List ℕ → List ℕ → List ℕ → List ℕ → List ℕ → List ℕ → ℕ → Noted → Type 0
-ValueAdded v texts starts orders ranks texts₁ starts₁ orders₁ ranks₁ n r =
-    let ws = words_at texts starts n in
-    Added texts starts orders ranks texts₁ starts₁ orders₁ ranks₁ n (length v) (code_of v ws) (value_noted v ws) r
+abbrev pub ValueAdded : List ℕ → Words → Words → ℕ → Type 0
+ValueAdded v b b₁ r = Added b b₁ r (length v) (code_of v (words_of b)) (value_noted v (words_of b))
 
--- after m: the r words are ws, the numbers are ns, and with so many bytes more the words would still be no longer than a text may be
-pub record Filled (texts starts orders ranks numbers texts₁ starts₁ orders₁ ranks₁ numbers₁ : List ℕ) (m r bytes : ℕ) (ws : List (List ℕ)) (ns : List ℕ)
-    : Type 0 where
-  pub book : Book texts₁ starts₁ orders₁ ranks₁ r
-  pub words : words_at texts₁ starts₁ r ≡ ws
+-- after m: the words of b are ws, the numbers are ns, and with so many bytes more the words would still be no longer than a text may be
+pub record Filled (numbers : List ℕ) (b : Words) (numbers₁ : List ℕ) (m bytes : ℕ) (ws : List (List ℕ)) (ns : List ℕ) : Type 0 where
+  pub book : BookOf b
+  pub words : words_of b ≡ ws
   pub are : take m numbers₁ ≡ ns
-  pub few : r ≤ m
-  pub end : get_or starts₁ r 0 + bytes ≤ text_limit
-  pub lengths : SameLengths texts starts orders ranks texts₁ starts₁ orders₁ ranks₁
+  pub few : b.count ≤ m
+  pub end : words_length b + bytes ≤ text_limit
   pub numbers_length : length numbers₁ ≡ length numbers
 
 -- the keys of m clauses, and their numbers
-abbrev pub KeysNoted : List ℕ → List ℕ → ℕ → List ℕ → List ℕ → List ℕ → List ℕ → List ℕ
-    → List ℕ → List ℕ → List ℕ → List ℕ → List ℕ → ℕ → Type 0
-KeysNoted s cs m texts starts orders ranks numbers texts₁ starts₁ orders₁ ranks₁ numbers₁ r =
+abbrev pub KeysNoted : List ℕ → List ℕ → ℕ → List ℕ → Words → List ℕ → Type 0
+KeysNoted s cs m numbers b numbers₁ =
     let ks = keys_in (clauses_in s cs m) in
-    Filled texts starts orders ranks numbers texts₁ starts₁ orders₁ ranks₁ numbers₁ m r 0 (noted_all [] ks) (numbers_of [] ks)
+    Filled numbers b numbers₁ m 0 (noted_all [] ks) (numbers_of [] ks)
 
 -- the values of m clauses, and their codes
-abbrev pub ValuesCoded : List ℕ → List ℕ → ℕ → List ℕ → List ℕ → List ℕ → List ℕ → List ℕ
-    → List ℕ → List ℕ → List ℕ → List ℕ → List ℕ → ℕ → Type 0
-ValuesCoded s cs m texts starts orders ranks codes texts₁ starts₁ orders₁ ranks₁ codes₁ r =
+abbrev pub ValuesCoded : List ℕ → List ℕ → ℕ → List ℕ → Words → List ℕ → Type 0
+ValuesCoded s cs m codes b codes₁ =
     let vs = values_in (clauses_in s cs m) in
-    Filled texts starts orders ranks codes texts₁ starts₁ orders₁ ranks₁ codes₁ (3 * m) r 0 (values_noted [] vs) (codes_of [] vs)
+    Filled codes b codes₁ (3 * m) 0 (values_noted [] vs) (codes_of [] vs)

@@ -7,7 +7,7 @@ ghost use Rattle.table_codes.specs.Read.{clause_in, RowOk, RowsOk, Room, Open, K
 
 use sheet::CLAUSE_NUMBERS;
 use signal::{SignalAt, put_key};
-use table_wordbook::{Noted, note};
+use table_wordbook::Words;
 
 // The signal of the clause whose numbers start at `at`.
 fn signal_at(cs: &[u16], at: usize) -> SignalAt
@@ -25,50 +25,26 @@ fn signal_at(cs: &[u16], at: usize) -> SignalAt
     }
 }
 
-// Writes the key of clause i behind the last of n words, and notes it.
-fn note_key(
-    s: &[u8],
-    cs: &[u16],
-    i: usize,
-    texts: &mut [u8],
-    starts: &mut [u16],
-    orders: &mut [u16],
-    ranks: &mut [u16],
-    n: usize,
-) -> Noted
+// Writes the key of clause i behind the last of the keys, and notes it: answered is its number.
+fn note_key(s: &[u8], cs: &[u16], i: usize, keys: &mut Words) -> u16
     requires row_ok { RowOk s.now cs.now i }
-    requires fact { Open texts.old starts.old orders.old ranks.old n (length (clause_in s.now cs.now i).signal.key) }
-    ensures { KeyAdded (clause_in s.now cs.now i).signal.key texts.old starts.old orders.old ranks.old texts.new starts.new orders.new ranks.new n result }
+    requires room { Open keys.old (length (clause_in s.now cs.now i).signal.key) }
+    ensures { KeyAdded (clause_in s.now cs.now i).signal.key keys.old keys.new result }
 {
     let at = CLAUSE_NUMBERS * i;
     let from = cs[at + 1] as usize;
-    let end = starts[n] as usize;
-    let to = put_key(texts, end, &s[from..], signal_at(cs, at));
-    note(texts, starts, orders, ranks, n, to)
+    let end = keys.end();
+    let to = put_key(&mut keys.texts, end, &s[from..], signal_at(cs, at));
+    keys.note(to)
 }
 
-// Notes the keys of m clauses, writes their numbers, and answers how many keys there are.
-pub fn note_keys(
-    s: &[u8],
-    cs: &[u16],
-    m: usize,
-    texts: &mut [u8],
-    starts: &mut [u16],
-    orders: &mut [u16],
-    ranks: &mut [u16],
-    numbers: &mut [u16],
-) -> usize
+// Notes the keys of m clauses, and writes their numbers.
+pub fn note_keys(s: &[u8], cs: &[u16], m: usize, keys: &mut Words, numbers: &mut [u16])
     requires rows_ok { RowsOk s.now cs.now m }
-    requires room { Room texts.old starts.old orders.old ranks.old numbers.old m }
-    ensures { KeysNoted s.now cs.now m texts.old starts.old orders.old ranks.old numbers.old texts.new starts.new orders.new ranks.new numbers.new result }
+    requires room { Room keys.old numbers.old m }
+    ensures { KeysNoted s.now cs.now m numbers.old keys.new numbers.new }
 {
-    let mut n: usize = 0;
-    let mut i: usize = 0;
-    while i < m {
-        let k = note_key(s, cs, i, texts, starts, orders, ranks, n);
-        numbers[i] = k.number;
-        n = k.count;
-        i += 1;
+    for i in 0..m {
+        numbers[i] = note_key(s, cs, i, keys);
     }
-    n
 }

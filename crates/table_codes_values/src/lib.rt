@@ -8,88 +8,49 @@ ghost use Rattle.table_codes.specs.Read.{value_in, RowOk, RowsOk, Room, Open, Va
 
 use sheet::CLAUSE_NUMBERS;
 use signal::is_wild;
-use table_wordbook::{Noted, note};
+use table_wordbook::Words;
 use text::put_part;
 
 // The code of the wildcard.
 const WILD_CODE: u16 = table::WILD_CODE as u16;
 
-// Writes the value in from..to of s behind the last of n words, and notes it; answered is its code, one more than its number. The
+// Writes the value in from..to of s behind the last of the values, and notes it: answered is its code, one more than its number. The
 // wildcard has a code of its own and is not noted.
-fn note_value(
-    s: &[u8],
-    from: usize,
-    to: usize,
-    texts: &mut [u8],
-    starts: &mut [u16],
-    orders: &mut [u16],
-    ranks: &mut [u16],
-    n: usize,
-) -> Noted
+fn note_value(s: &[u8], from: usize, to: usize, values: &mut Words) -> u16
     requires part { Part s.now from to }
-    requires fact { Open texts.old starts.old orders.old ranks.old n (length (slice from to s.now)) }
-    ensures { ValueAdded (slice from to s.now) texts.old starts.old orders.old ranks.old texts.new starts.new orders.new ranks.new n result }
+    requires room { Open values.old (length (slice from to s.now)) }
+    ensures { ValueAdded (slice from to s.now) values.old values.new result }
 {
     if is_wild(s, from, to) {
-        return Noted {
-            number: WILD_CODE,
-            count: n,
-        };
+        return WILD_CODE;
     }
-    let end = starts[n] as usize;
-    let behind = put_part(texts, end, s, from, to);
-    let r = note(texts, starts, orders, ranks, n, behind);
-    Noted {
-        number: r.number + 1,
-        count: r.count,
-    }
+    let end = values.end();
+    let behind = put_part(&mut values.texts, end, s, from, to);
+    values.note(behind) + 1
 }
 
 // Notes value j: the first, second or third of clause j / 3. It stands between two of the clause's places, one next to the other.
-fn note_value_at(
-    s: &[u8],
-    cs: &[u16],
-    j: usize,
-    texts: &mut [u8],
-    starts: &mut [u16],
-    orders: &mut [u16],
-    ranks: &mut [u16],
-    n: usize,
-) -> Noted
+#[tactic(auto, using(table_codes::proofs::Places::value_stands))]
+fn note_value_at(s: &[u8], cs: &[u16], j: usize, values: &mut Words) -> u16
     requires row_ok { RowOk s.now cs.now (j / 3) }
-    requires fact { Open texts.old starts.old orders.old ranks.old n (length (value_in s.now cs.now j)) }
-    ensures { ValueAdded (value_in s.now cs.now j) texts.old starts.old orders.old ranks.old texts.new starts.new orders.new ranks.new n result }
+    requires room { Open values.old (length (value_in s.now cs.now j)) }
+    ensures { ValueAdded (value_in s.now cs.now j) values.old values.new result }
 {
     let at = CLAUSE_NUMBERS * (j / 3);
     let from = cs[at + 1] as usize;
     let before = at + 4 + j % 3;
     let a = from + cs[before] as usize + 1;
     let b = from + cs[before + 1] as usize;
-    note_value(s, a, b, texts, starts, orders, ranks, n)
+    note_value(s, a, b, values)
 }
 
-// Notes the values of m clauses, three each, writes their codes, and answers how many values there are.
-pub fn note_values(
-    s: &[u8],
-    cs: &[u16],
-    m: usize,
-    texts: &mut [u8],
-    starts: &mut [u16],
-    orders: &mut [u16],
-    ranks: &mut [u16],
-    codes: &mut [u16],
-) -> usize
+// Notes the values of m clauses, three each, and writes their codes.
+pub fn note_values(s: &[u8], cs: &[u16], m: usize, values: &mut Words, codes: &mut [u16])
     requires rows_ok { RowsOk s.now cs.now m }
-    requires room { Room texts.old starts.old orders.old ranks.old codes.old (3 * m) }
-    ensures { ValuesCoded s.now cs.now m texts.old starts.old orders.old ranks.old codes.old texts.new starts.new orders.new ranks.new codes.new result }
+    requires room { Room values.old codes.old (3 * m) }
+    ensures { ValuesCoded s.now cs.now m codes.old values.new codes.new }
 {
-    let mut n: usize = 0;
-    let mut j: usize = 0;
-    while j < 3 * m {
-        let v = note_value_at(s, cs, j, texts, starts, orders, ranks, n);
-        codes[j] = v.number;
-        n = v.count;
-        j += 1;
+    for j in 0..3 * m {
+        codes[j] = note_value_at(s, cs, j, values);
     }
-    n
 }

@@ -2,35 +2,31 @@
 use Prim.Native.Nat.{ℕ}
 use mathlib.Core.Bool.{true}
 use mathlib.Core.List.{List}
-use mathlib.Core.Path.{◌≡◌, refl, sym, subst, ◌∙◌}
+use mathlib.Core.Path.{◌≡◌, refl, sym, ◌∙◌}
 use mathlib.Core.Logic.{◌≢◌}
 use borrow.Author.Tests.{eq-eqb, ne_eqb}
 use lib.ListN.{length}
+use Rattle.std.specs.Prelude.{Ok, Err}
 use Rattle.text.specs.Answer.{Refused, Got}
-use Rattle.sheet.specs.Sheet.{Sheet}
 use Rattle.sheet.specs.Read.{read_sheet}
 use Rattle.sheet.specs.Places.{sheet_at, SheetAs}
 use Rattle.sheet.specs.declared.SheetAt.{SheetAt}
-use Rattle.sheet.specs.declared.SheetRead.{SheetRead}
+use Rattle.sheet.specs.declared.SheetError.{SheetError}
 use Rattle.table_limits.specs.Fine.{fine_sheet}
 use Rattle.table.specs.Layout.{table_length}
 use Rattle.table.specs.Compile.{compile_do, Means}
 use Rattle.table_layout.specs.Build.{table_of}
 use Rattle.table_layout.proofs.Table.{table_means}
-use Rattle.table_parts.specs.Draft.{Words, draft, Drafted}
+use Rattle.table_wordbook.specs.declared.Words.{Words}
+use Rattle.table_parts.specs.Draft.{draft, Drafted}
 use Rattle.table_parts.proofs.Right.{draft-ok, draft_means, draft-sized}
-use Rattle.table_compile.specs.Outcome.{number_of, CompiledAs}
-use Rattle.table_compile.specs.declared.Outcome.{Outcome}
-use Rattle.table_compile.specs.declared.Outcome.TheVariants.{Done, WrongLength}
+use Rattle.table_compile.specs.declared.CompileError.{CompileError}
+use Rattle.table_compile.specs.Outcome.{compile_refusal, CompiledAs}
 
 -- the table that is written means the sheet
 pub written_means : {s es cs : List ℕ} {a : SheetAt} {numbers codes : List ℕ} {ks vs : Words} {after : List ℕ} → Drafted s es cs a numbers codes ks vs
     → fine_sheet (sheet_at s es cs a) ≡ true → after ≡ table_of (draft s es cs a numbers codes ks vs) → Means after (sheet_at s es cs a)
 written_means d f e = rw (e, ← draft_means d f) (table_means (draft-sized d f) (draft-ok d f))
-
--- what was read, by the case that it is
-pub told : {s es cs : List ℕ} {r q : SheetRead} → SheetAs s es cs r → r ≡ q → SheetAs s es cs q
-told {s} {es} {cs} a e = subst (λ x. SheetAs s es cs x) e a
 
 -- "Compiling checks 8" first
 other_length : (s before : List ℕ) → length before ≢ table_length → compile_do s before ≡ Refused 8
@@ -42,17 +38,20 @@ unfolding compile_do
 right-length s before h = rw (eq-eqb (length before) table_length h)
 
 -- a refusal leaves every byte
-module _ {s before : List ℕ} {n : ℕ} (r : Outcome) (k : number_of r ≡ n) where
-  kept : compile_do s before ≡ Refused n → CompiledAs s before before r
-  kept c = record { answer = rw c k; bytes = rw c refl }
+kept : {s before : List ℕ} (e : CompileError) → compile_do s before ≡ Refused (compile_refusal e) → CompiledAs s before before (Err e)
+kept e c = record { answer = rw c; bytes = rw c refl }
 
-pub wrong_length : {s before : List ℕ} → length before ≢ table_length → CompiledAs s before before WrongLength
-wrong_length {s} {before} h = kept WrongLength refl (other_length s before h)
+module _ {s before : List ℕ} where
+  pub wrong_length : length before ≢ table_length → CompiledAs s before before (Err CompileError.WrongLength)
+  wrong_length h = kept CompileError.WrongLength (other_length s before h)
 
-pub refused : {s before : List ℕ} {n : ℕ} (r : Outcome) → number_of r ≡ n → length before ≡ table_length → Refused n ≡ read_sheet s → CompiledAs s before before r
-refused {s} {before} r k h e = kept r k (right-length s before h ∙ sym e)
+  module _ (h : length before ≡ table_length) {es cs : List ℕ} where
+    -- the sheet is refused
+    pub refused : {e : SheetError} → SheetAs s es cs (Err e) → CompiledAs s before before (Err (CompileError.Sheet e))
+    refused {e} r = kept (CompileError.Sheet e) (right-length s before h ∙ sym r.is)
 
-pub done : {s before after : List ℕ} {sheet : Sheet} → length before ≡ table_length → Got sheet ≡ read_sheet s → Means after sheet → CompiledAs s before after Done
-done {s} {before} {after} {sheet} h e m =
-    let c : compile_do s before ≡ Got sheet = right-length s before h ∙ sym e in
-    record { answer = rw c refl; bytes = rw c m }
+    -- or the table means it
+    pub done : {a : SheetAt} {after : List ℕ} → SheetAs s es cs (Ok a) → Means after (sheet_at s es cs a) → CompiledAs s before after (Ok tt)
+    done {a} {after} r m =
+        let c : compile_do s before ≡ Got (sheet_at s es cs a) = right-length s before h ∙ sym r.is in
+        record { answer = rw c refl; bytes = rw c m }

@@ -6,137 +6,78 @@ ghost use Rattle.std.specs.Prelude.{◌≡◌, length};
 ghost use Rattle.sheet.specs.Places.{sheet_at};
 ghost use Rattle.table.specs.Layout.{table_length};
 ghost use Rattle.table.specs.Compile.{Means};
-ghost use Rattle.table_compile.specs.Outcome.{number_of, CompiledAs};
-ghost use Rattle.table_compile.specs.Steps.{SheetDone, KeysDone};
+ghost use Rattle.table_compile.specs.declared.CompileError.TheVariants as CompileError;
+ghost use Rattle.table_compile.specs.Outcome.{compile_refusal, CompiledAs};
+ghost use Rattle.table_compile.specs.Steps.{SheetDone};
 
-use sheet::{SheetAt, SheetRead};
+use sheet::{CLAUSE_LIMIT, CLAUSE_NUMBERS, EVENT_LIMIT, EVENT_NUMBERS, SheetAt, SheetError};
 use sheet_read::read_sheet;
+use signal::SignalError;
 use table::TABLE_LENGTH;
 use table_codes::note_keys;
 use table_codes_values::note_values;
+use table_wordbook::Words;
 use table_write::put_table;
 
-// What compiling answers: done, or why the text or the table is refused.
+// Why a text is not compiled.
 #[derive(Clone, Copy)]
-pub enum Outcome {
-    Done,
+pub enum CompileError {
     WrongLength,
-    PastLimit,
-    NotUtf8,
-    Malformed,
-    BadNumber,
-    UnknownOperate,
-    NotSeven,
-    BadScore,
-    BadLots,
+    Sheet(SheetError),
 }
 
-impl Outcome {
+impl CompileError {
     // The number of the answer.
     pub fn number(self) -> u32
-        ensures { result ≡ number_of self }
+        ensures { result ≡ compile_refusal self }
     {
         match self {
-            Outcome::Done => 0,
-            Outcome::NotUtf8 => 1,
-            Outcome::Malformed => 2,
-            Outcome::BadNumber => 3,
-            Outcome::UnknownOperate => 4,
-            Outcome::NotSeven => 5,
-            Outcome::BadScore => 6,
-            Outcome::PastLimit => 7,
-            Outcome::WrongLength => 8,
-            Outcome::BadLots => 18,
+            CompileError::Sheet(SheetError::NotUtf8) => 1,
+            CompileError::Sheet(SheetError::Malformed) => 2,
+            CompileError::Sheet(SheetError::BadNumber) => 3,
+            CompileError::Sheet(SheetError::UnknownOperate) => 4,
+            CompileError::Sheet(SheetError::Signal(SignalError::NotSeven)) => 5,
+            CompileError::Sheet(SheetError::Signal(SignalError::BadScore)) => 6,
+            CompileError::Sheet(SheetError::PastLimit) => 7,
+            CompileError::WrongLength => 8,
+            CompileError::Sheet(SheetError::BadLots) => 18,
         }
     }
 }
 
-// Notes the values of a sheet whose keys are noted, and writes the table.
-fn write_values(
-    table: &mut [u8],
-    s: &[u8],
-    es: &[u16],
-    cs: &[u16],
-    a: SheetAt,
-    numbers: &[u16],
-    ktexts: &[u8],
-    kstarts: &[u16],
-    korders: &[u16],
-    kranks: &[u16],
-    k: usize,
-)
-    requires table_len { length table.old ≡ table_length }
-    requires keys_done { KeysDone s.now es.now cs.now a numbers.now (record { texts = ktexts.now; starts = kstarts.now; orders = korders.now; ranks = kranks.now; count = k }) }
-    ensures { Means table.new (sheet_at s.now es.now cs.now a) }
-{
-    let mut texts = [0u8; 16384];
-    let mut starts = [0u16; 769];
-    let mut orders = [0u16; 768];
-    let mut ranks = [0u16; 768];
-    let mut codes = [0u16; 768];
-    let v = note_values(
-        s,
-        cs,
-        a.clauses,
-        &mut texts,
-        &mut starts,
-        &mut orders,
-        &mut ranks,
-        &mut codes,
-    );
-    put_table(
-        table, s, es, cs, a, numbers, &codes, ktexts, kstarts, korders, kranks, k, &texts, &starts,
-        &orders, &ranks, v,
-    );
+impl From<SheetError> for CompileError {
+    ghost from_gives = { λ e r. r ≡ CompileError.Sheet e };
+
+    fn from(e: SheetError) -> CompileError {
+        CompileError::Sheet(e)
+    }
 }
 
-// Writes the table of a sheet that was read.
+// Writes the table of a sheet that was read: its keys and its values are noted first.
 fn write(table: &mut [u8], s: &[u8], es: &[u16], cs: &[u16], a: SheetAt)
     requires table_len { length table.old ≡ table_length }
     requires sheet_done { SheetDone s.now es.now cs.now a }
     ensures { Means table.new (sheet_at s.now es.now cs.now a) }
 {
-    let mut texts = [0u8; 16384];
-    let mut starts = [0u16; 257];
-    let mut orders = [0u16; 256];
-    let mut ranks = [0u16; 256];
-    let mut numbers = [0u16; 256];
-    let k = note_keys(
-        s,
-        cs,
-        a.clauses,
-        &mut texts,
-        &mut starts,
-        &mut orders,
-        &mut ranks,
-        &mut numbers,
-    );
-    write_values(
-        table, s, es, cs, a, &numbers, &texts, &starts, &orders, &ranks, k,
-    );
+    let mut keys = Words::new();
+    let mut numbers = [0u16; CLAUSE_LIMIT];
+    note_keys(s, cs, a.clauses, &mut keys, &mut numbers);
+    let mut values = Words::new();
+    let mut codes = [0u16; 3 * CLAUSE_LIMIT];
+    note_values(s, cs, a.clauses, &mut values, &mut codes);
+    put_table(table, s, es, cs, a, &numbers, &codes, &keys, &values);
 }
 
 // Compiles the sheet s into the table. A refusal leaves every byte of it.
-pub fn compile(s: &[u8], table: &mut [u8]) -> Outcome
+pub fn compile(s: &[u8], table: &mut [u8]) -> Result<(), CompileError>
     ensures { CompiledAs s.now table.old table.new result }
 {
     if table.len() != TABLE_LENGTH {
-        return Outcome::WrongLength;
+        return Err(CompileError::WrongLength);
     }
-    let mut es = [0u16; 192];
-    let mut cs = [0u16; 2304];
-    match read_sheet(s, &mut es, &mut cs) {
-        SheetRead::Is(a) => {
-            write(table, s, &es, &cs, a);
-            Outcome::Done
-        }
-        SheetRead::PastLimit => Outcome::PastLimit,
-        SheetRead::NotUtf8 => Outcome::NotUtf8,
-        SheetRead::Malformed => Outcome::Malformed,
-        SheetRead::BadNumber => Outcome::BadNumber,
-        SheetRead::UnknownOperate => Outcome::UnknownOperate,
-        SheetRead::NotSeven => Outcome::NotSeven,
-        SheetRead::BadScore => Outcome::BadScore,
-        SheetRead::BadLots => Outcome::BadLots,
-    }
+    let mut es = [0u16; EVENT_NUMBERS * EVENT_LIMIT];
+    let mut cs = [0u16; CLAUSE_NUMBERS * CLAUSE_LIMIT];
+    let a = read_sheet(s, &mut es, &mut cs)?;
+    write(table, s, &es, &cs, a);
+    Ok(())
 }

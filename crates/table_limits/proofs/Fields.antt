@@ -3,7 +3,7 @@ use Prim.Native.Nat.{ℕ, suc, ◌+◌, ◌≤◌, ◌<◌}
 use native.Mathlib.Omega.{arith}
 use mathlib.Core.Bool.{Bool, true, false, cond, ◌||◌}
 use mathlib.Core.List.{List, [], ◌∷◌}
-use mathlib.Core.Option.{Option, none, some}
+use Rattle.std.specs.Prelude.{Option, None, Some}
 use mathlib.Core.Path.{◌≡◌, refl, sym}
 use borrow.Author.Tests.{leb-true, eqb-true}
 use lib.Dec.{leb, eqb}
@@ -55,10 +55,10 @@ name_gives s = then_with (must_test 7 (leb (length s) name_limit) tt) (λ _ h. g
 
 -- a number within its limit
 limit_gives : (hi : ℕ) (o : Option ℕ) → Gives (λ n. n ≤ hi) (given 3 (at_most hi o))
-limit_gives hi none = refuses
-limit_gives hi (some v) = low (leb v hi) refl
+limit_gives hi None = refuses
+limit_gives hi (Some v) = low (leb v hi) refl
   where
-    low : (t : Bool) → leb v hi ≡ t → Gives (λ n. n ≤ hi) (given 3 (cond t (some v) none))
+    low : (t : Bool) → leb v hi ≡ t → Gives (λ n. n ≤ hi) (given 3 (cond t (Some v) None))
     low true e = gives (leb-true v hi e)
     low false e = refuses
 
@@ -87,7 +87,7 @@ code_gives k s (l ∷ ls) [] = refuses
 code_gives k s (l ∷ ls) (c ∷ cs) = go (same s l || same s c) (code_gives (suc k) s ls cs)
   where
     go : (t : Bool) → Gives (λ n. n < suc k + length ls) (given 4 (code_from (suc k) s ls cs))
-        → Gives (λ n. n < k + suc (length ls)) (given 4 (cond t (some k) (code_from (suc k) s ls cs)))
+        → Gives (λ n. n < k + suc (length ls)) (given 4 (cond t (Some k) (code_from (suc k) s ls cs)))
     go true g = gives {x = k} (omega arith)
     go false g = gives_also g (λ n h. omega arith)
 

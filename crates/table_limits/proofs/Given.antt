@@ -1,7 +1,7 @@
 -- What a reading gives: the test that it passed, the value that was there. Assumes nothing.
 use Prim.Native.Nat.{ℕ, zero, suc}
 use mathlib.Core.Bool.{Bool, true, false, cond, false≢true}
-use mathlib.Core.Option.{Option, none, some}
+use Rattle.std.specs.Prelude.{Option, None, Some}
 use mathlib.Core.Path.{◌≡◌, refl, subst}
 use lib.Dec.{T, ltb}
 use Rattle.text.specs.Answer.{Answer, Got, must, given}
@@ -14,10 +14,10 @@ must_test zero t h = absurd h
 must_test (suc n) true h = gives refl
 must_test (suc n) false h = refuses
 
-pub given_some : {X : Type 0} (n : ℕ) (o : Option X) → T (ltb 0 n) → Gives (λ x. o ≡ some x) (given n o)
+pub given_some : {X : Type 0} (n : ℕ) (o : Option X) → T (ltb 0 n) → Gives (λ x. o ≡ Some x) (given n o)
 given_some zero o h = absurd h
-given_some (suc n) none h = refuses
-given_some (suc n) (some x) h = gives refl
+given_some (suc n) None h = refuses
+given_some (suc n) (Some x) h = gives refl
 
 -- one of two readings
 pub either_gives : {X : Type 0} {P : X → Type 0} (t : Bool) {a b : Answer X} → Gives P a → Gives P b → Gives P (cond t a b)

@@ -3,7 +3,7 @@ use Prim.Native.Nat.{ℕ, ◌+◌, ◌≤◌}
 use native.Mathlib.Omega.{arith}
 use mathlib.Core.Bool.{true}
 use mathlib.Core.List.{List}
-use mathlib.Core.Option.{Option, none, some}
+use Rattle.std.specs.Prelude.{Option, None, Some}
 use mathlib.Core.Path.{◌≡◌}
 use lib.ListN.{length}
 use Rattle.text.specs.Answer.{Got, given}
@@ -22,23 +22,23 @@ use Rattle.table_limits.proofs.SheetLines.{Fine, position_gives, later_gives}
 
 -- n bytes of a text are left, and the sheet that was read so far is fine
 abbrev Kept : ℕ → Option Sheet → Type 0
-Kept n none = n ≤ text_limit
-Kept n (some s) = Fine n s
+Kept n None = n ≤ text_limit
+Kept n (Some s) = Fine n s
 
 line_keeps : (n : ℕ) (o : Option Sheet) (p : List ℕ) → Line p → Kept (length p + n) o → Gives (Kept n) (sheet_line o (split pipe p))
-line_keeps n none p l h = then_with (position_gives n p l h) (λ s k. gives k)
-line_keeps n (some s) p l k = then_with (later_gives n p l s k) (λ t h. gives h)
+line_keeps n None p l h = then_with (position_gives n p l h) (λ s k. gives k)
+line_keeps n (Some s) p l k = then_with (later_gives n p l s k) (λ t h. gives h)
 
 pub sheet_gives : (s : List ℕ) → Gives (λ sheet. fine_sheet sheet ≡ true) (read_sheet s)
 unfolding read_sheet
 sheet_gives s =
     then_with (text_gives s)
-    (λ _ t. then_with (lines_keep sheet_line Kept line_keeps (split LF s) (line_at s t.right) none (omega (arith, split-length LF s, t.short)))
+    (λ _ t. then_with (lines_keep sheet_line Kept line_keeps (split LF s) (line_at s t.right) None (omega (arith, split-length LF s, t.short)))
     last)
   where
     last : (o : Option Sheet) → Kept 0 o → Gives (λ sheet. fine_sheet sheet ≡ true) (given 2 o)
-    last none k = refuses
-    last (some sheet) k = gives (sheet_sure sheet k.facts)
+    last None k = refuses
+    last (Some sheet) k = gives (sheet_sure sheet k.facts)
 
 -- the theorem
 pub sheet-fine : (s : List ℕ) (sh : Sheet) → read_sheet s ≡ Got sh → fine_sheet sh ≡ true

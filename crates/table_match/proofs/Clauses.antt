@@ -1,31 +1,26 @@
 -- A clause that holds: the score, the values and the line of its key. Assumes nothing.
-use Prim.Native.Nat.{ℕ, zero, suc, ◌+◌, ◌-◌, ◌<◌, ◌≤◌}
+use Prim.Native.Nat.{ℕ, ◌+◌, ◌-◌, ◌<◌, ◌≤◌}
 use native.Mathlib.Omega.{arith}
 use mathlib.Core.Path.{◌≡◌, ◌∙◌, refl, sym, ap}
 use mathlib.Core.Logic.{◌≢◌}
 use mathlib.Core.Bool.{Bool, true, false, false≢true, ◌&&◌, or-true, or-false}
 use mathlib.Core.List.{List, []}
-use mathlib.Core.Option.{Option, none, some}
-use borrow.Author.Tests.{leb-true, ltb-true, lt-leb, eq-eqb, ne_eqb}
-use lib.Dec.{leb, eqb}
-use lib.IntN.{ℤ, pos, neg_ℤ}
-use lib.Signed.{le_z}
+use Rattle.std.specs.Prelude.{Option, None, Some}
+use borrow.Author.Tests.{leb-true, ltb-true, eq-eqb, ne_eqb}
+use lib.Dec.{leb}
+use lib.IntN.{ℤ}
 use lib.ListN.{length, get_or, take, drop}
 use lib.Seq.{slice}
 use Rattle.text.specs.Text.{same}
-use Rattle.text_number.specs.Read.{int_of}
-use Rattle.text_number.specs.declared.Int.{Int}
-use Rattle.text_number.specs.declared.Int.TheVariants.{Plus, Minus}
 use Rattle.text.proofs.Conditions.{fact}
 use Rattle.text.proofs.Laws.{part_end, part-size}
 use Rattle.text.proofs.Same.{same_refl}
 use Rattle.signal.specs.Signal.{Signal, wildcard}
 use Rattle.signal.specs.Value.{valued, value_of}
-use Rattle.signal.specs.Read.{value_in}
+use Rattle.signal.specs.Read.{ValueAs}
 use Rattle.signal.specs.declared.ValueAt.{ValueAt}
-use Rattle.signal.specs.declared.ValueRead.TheVariants.{Counts, Absent}
 use Rattle.event.specs.Match.{value_at, agrees, meets, met_by, holds}
-use Rattle.event_find.specs.Places.{print, lines_at, LinesOk}
+use Rattle.event_find.specs.Places.{lines_at, LinesOk}
 use Rattle.event_find.specs.Steps.{FoundAt, Missing}
 use Rattle.table.specs.Layout.{counts_in}
 use Rattle.table.specs.Table.{wild_code, clause_ok, text_at, clause_of, is_table}
@@ -33,26 +28,6 @@ use Rattle.table.specs.declared.ClauseRow.{ClauseRow}
 use Rattle.table_match.specs.Rows.{keys_of, values_of, clause_from, CodeIn, ClauseIn}
 use Rattle.table_match.specs.First.{reached}
 use Rattle.table_match.proofs.Sound.{value-plain}
-
--- ---- `reaches`
-
-module _ (own : ℕ) {score : Int} {m : ℕ} where
-  pub reach_plus : score ≡ Plus m → leb own m ≡ reached own (int_of score)
-  reach_plus e = rw e
-
-  pub reach_zero : score ≡ Minus m → m ≡ 0 → eqb own 0 ≡ reached own (int_of score)
-  reach_zero e z = rw (e, z) (go own)
-    where
-      go : (n : ℕ) → eqb n 0 ≡ leb n 0
-      go zero = refl
-      go (suc n) = ne_eqb (suc n) 0 (omega arith) ∙ sym (lt-leb (suc n) 0 (omega arith))
-
-  pub reach_below : score ≡ Minus m → m ≢ 0 → false ≡ reached own (int_of score)
-  reach_below e h = rw e (go m h)
-    where
-      go : (m : ℕ) → m ≢ 0 → false ≡ le_z (pos own) (neg_ℤ (pos m))
-      go zero h = absurd (h refl)
-      go (suc k) h = refl
 
 -- ---- `agrees`
 
@@ -87,35 +62,39 @@ module _ (t : List ℕ) (ok : is_table t ≡ true) {code : ℕ} (c : CodeIn t co
 met_parts : (c : Signal) (x y z : List ℕ) (o : Option ℤ)
     → met_by c (valued x y z o) ≡ (reached c.score o && agrees c.v1 x && agrees c.v2 y && agrees c.v3 z)
 unfolding meets
-met_parts c x y z none = refl
-met_parts c x y z (some n) = refl
+met_parts c x y z None = refl
+met_parts c x y z (Some n) = refl
 
-module _ (t v : List ℕ) (c : ClauseRow) (a : ValueAt) (e : value_in v (Counts a) ≡ value_of v) where
-  met : met_by (clause_from t c).signal (value_of v)
-      ≡ (reached c.score (int_of a.score)
-      && agrees (text_at (values_of t) c.v1) (slice 0 a.v1 v)
-      && agrees (text_at (values_of t) c.v2) (slice (a.v1 + 1) a.v2 v)
-      && agrees (text_at (values_of t) c.v3) (slice (a.v2 + 1) a.v3 v))
-  unfolding clause_of
-  met = ap (met_by (clause_from t c).signal) (sym e) ∙ met_parts (clause_from t c).signal (slice 0 a.v1 v) (slice (a.v1 + 1) a.v2 v) (slice (a.v2 + 1) a.v3 v) (int_of a.score)
+-- a value that was read
+pub met_is : (t v : List ℕ) (c : ClauseRow) (a : ValueAt) → ValueAs v (Some a)
+    → met_by (clause_from t c).signal (value_of v)
+    ≡ (reached c.score (Some a.score)
+    && agrees (text_at (values_of t) c.v1) (slice 0 a.v1 v)
+    && agrees (text_at (values_of t) c.v2) (slice (a.v1 + 1) a.v2 v)
+    && agrees (text_at (values_of t) c.v3) (slice (a.v2 + 1) a.v3 v))
+unfolding clause_of
+met_is t v c a r =
+    ap (met_by (clause_from t c).signal) (sym r.is)
+    ∙ met_parts (clause_from t c).signal (slice 0 a.v1 v) (slice (a.v1 + 1) a.v2 v) (slice (a.v2 + 1) a.v3 v) (Some a.score)
 
-  pub met_score : false ≡ reached c.score (int_of a.score) → false ≡ met_by (clause_from t c).signal (value_of v)
-  met_score h = sym (met ∙ rw (← h))
+pub met_none : (t v : List ℕ) (c : ClauseRow) → ValueAs v None → met_by (clause_from t c).signal (value_of v) ≡ false
+met_none t v c r = rw (← r.is)
 
-  module _ (h : true ≡ reached c.score (int_of a.score)) where
-    pub met_first : false ≡ agrees (text_at (values_of t) c.v1) (slice 0 a.v1 v) → false ≡ met_by (clause_from t c).signal (value_of v)
-    met_first h1 = sym (met ∙ rw (← h, ← h1))
+-- four tests in a row: the first that fails, or the last
+module _ {m : Bool} (r a b c : Bool) (e : m ≡ (r && a && b && c)) where
+  pub first_fails : r ≡ false → m ≡ false
+  first_fails h = e ∙ rw h
 
-    module _ (h1 : true ≡ agrees (text_at (values_of t) c.v1) (slice 0 a.v1 v)) where
-      pub met_second : false ≡ agrees (text_at (values_of t) c.v2) (slice (a.v1 + 1) a.v2 v) → false ≡ met_by (clause_from t c).signal (value_of v)
-      met_second h2 = sym (met ∙ rw (← h, ← h1, ← h2))
+  module _ (h : r ≡ true) where
+    pub second_fails : a ≡ false → m ≡ false
+    second_fails k = e ∙ rw (h, k)
 
-      pub met_third : true ≡ agrees (text_at (values_of t) c.v2) (slice (a.v1 + 1) a.v2 v) → {b : Bool} → b ≡ agrees (text_at (values_of t) c.v3) (slice (a.v2 + 1) a.v3 v)
-          → b ≡ met_by (clause_from t c).signal (value_of v)
-      met_third h2 h3 = sym (met ∙ rw (← h, ← h1, ← h2, ← h3))
+    module _ (k : a ≡ true) where
+      pub third_fails : b ≡ false → m ≡ false
+      third_fails l = e ∙ rw (h, k, l)
 
-pub met_none : (t v : List ℕ) (c : ClauseRow) → value_in v Absent ≡ value_of v → false ≡ met_by (clause_from t c).signal (value_of v)
-met_none t v c e = rw (← e)
+      pub last_decides : b ≡ true → m ≡ c
+      last_decides l = e ∙ rw (h, k, l)
 
 -- the key and the codes of a clause
 module _ (t : List ℕ) (c : ClauseRow) (ok : ClauseIn t c) where
@@ -123,23 +102,19 @@ module _ (t : List ℕ) (c : ClauseRow) (ok : ClauseIn t c) where
   unfolding clause_ok
   clause-key = ltb-true c.key (counts_in t).keys (fact _ ok 1)
 
-  pub clause-v1 : CodeIn t c.v1
+  pub clause_v1 : CodeIn t c.v1
   unfolding clause_ok
-  clause-v1 = fact _ ok 2
+  clause_v1 = fact _ ok 2
 
-  pub clause-v2 : CodeIn t c.v2
+  pub clause_v2 : CodeIn t c.v2
   unfolding clause_ok
-  clause-v2 = fact _ ok 3
+  clause_v2 = fact _ ok 3
 
-  pub clause-v3 : CodeIn t c.v3
+  pub clause_v3 : CodeIn t c.v3
   unfolding clause_ok
-  clause-v3 = fact _ ok 4
+  clause_v3 = fact _ ok 4
 
 -- ---- `clause_holds`
-
--- the whole of a key
-pub whole-print : (k : List ℕ) {h : ℕ} → h ≡ print (slice 0 (length k) k) → h ≡ print k
-whole-print k e = rw (part_end 0 k) at e
 
 -- the places of a line's value
 pub record ValuePart (s starts mids : List ℕ) (i : ℕ) : Type 0 where

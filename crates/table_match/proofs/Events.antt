@@ -1,11 +1,11 @@
 -- The first event of a kind that matches, and the first match. Assumes nothing.
 use Prim.Native.Nat.{ℕ, zero, suc, ◌+◌, ◌%◌, ◌<◌, ◌≤◌}
 use native.Mathlib.Omega.{arith}
-use mathlib.Core.Path.{◌≡◌, ◌∙◌, refl, sym, ap}
+use mathlib.Core.Path.{◌≡◌, ◌∙◌, refl, sym}
 use mathlib.Core.Logic.{◌≢◌}
 use mathlib.Core.Bool.{Bool, true, false, not, cond, ◌&&◌}
 use mathlib.Core.List.{List, [], ◌∷◌}
-use mathlib.Core.Option.{Option, none, some}
+use Rattle.std.specs.Prelude.{Option, None, Some}
 use borrow.Author.Tests.{eq-eqb, ne_eqb}
 use lib.Dec.{eqb}
 use lib.ListN.{drop, drop_of_length-le}
@@ -18,9 +18,7 @@ use Rattle.table.specs.Table.{event_of, sheet_of}
 use Rattle.table.specs.declared.EventRow.{EventRow}
 use Rattle.table.proofs.Facts.{events-count}
 use Rattle.table_match.specs.Rows.{event_from}
-use Rattle.table_match.specs.First.{of_number, match_of, FirstAs, MatchAs}
-use Rattle.table_match.specs.declared.Match.{Match}
-use Rattle.table_match.specs.declared.Match.TheVariants.{Event as Chosen, Nothing}
+use Rattle.table_match.specs.First.{of_number, FirstAs, MatchAs}
 
 -- ---- `is_hit`
 
@@ -54,7 +52,7 @@ pub finding_first : (kind : ℕ) (t s starts mids : List ℕ) (n : ℕ) → Find
 finding_first kind t s starts mids n = record { le = omega arith; still = refl }
 
 module _ {kind : ℕ} {t s starts mids : List ℕ} {n i : ℕ} (f : Finding kind t s starts mids n i) where
-  pub finding_last : (counts_in t).events ≤ i → FirstAs kind t s starts mids n Nothing
+  pub finding_last : (counts_in t).events ≤ i → FirstAs kind t s starts mids n None
   unfolding first_of
   finding_last h =
       let e : drop i (sheet_of (parts_in t)).events ≡ [] = drop_of_length-le (sheet_of (parts_in t)).events {i = i} (omega (arith, events-count t)) in
@@ -62,13 +60,13 @@ module _ {kind : ℕ} {t s starts mids : List ℕ} {n i : ℕ} (f : Finding kind
 
   module _ (h : i < (counts_in t).events) {v : Event} (next : drop i (sheet_of (parts_in t)).events ≡ v ∷ drop (i + 1) (sheet_of (parts_in t)).events) where
     found : first_of (of_number kind) 0 (lines_at s starts mids n) (sheet_of (parts_in t)).events
-        ≡ cond (of_number kind v && matches (lines_at s starts mids n) v) (some i) (first_of (of_number kind) (i + 1) (lines_at s starts mids n) (drop (i + 1) (sheet_of (parts_in t)).events))
+        ≡ cond (of_number kind v && matches (lines_at s starts mids n) v) (Some i) (first_of (of_number kind) (i + 1) (lines_at s starts mids n) (drop (i + 1) (sheet_of (parts_in t)).events))
     unfolding first_of
     found =
         let e : suc i ≡ i + 1 = omega arith in
         f.still ∙ rw (next, first_of, e)
 
-    pub finding_hit : true ≡ (of_number kind v && matches (lines_at s starts mids n) v) → FirstAs kind t s starts mids n (Chosen i)
+    pub finding_hit : true ≡ (of_number kind v && matches (lines_at s starts mids n) v) → FirstAs kind t s starts mids n (Some i)
     finding_hit q = record { is = sym (found ∙ rw (← q)); ok = h }
 
     pub finding_more : false ≡ (of_number kind v && matches (lines_at s starts mids n) v) → Finding kind t s starts mids n (i + 1)
@@ -77,17 +75,17 @@ module _ {kind : ℕ} {t s starts mids : List ℕ} {n i : ℕ} (f : Finding kind
 -- ---- `first_match`
 
 module _ {t s starts mids : List ℕ} {n : ℕ} where
-  pub match_opening : {r : Match} → FirstAs 0 t s starts mids n r → {i : ℕ} → r ≡ Chosen i → MatchAs t s starts mids n r
+  pub match_opening : {r : (Option ℕ)} → FirstAs 0 t s starts mids n r → {i : ℕ} → r ≡ Some i → MatchAs t s starts mids n r
   unfolding first_match
   match_opening {r} a {i} e = record {
-    is = a.is ∙ go (first_of (of_number 0) 0 (lines_at s starts mids n) (sheet_of (parts_in t)).events) (sym a.is ∙ ap match_of e);
+    is = a.is ∙ go (first_of (of_number 0) 0 (lines_at s starts mids n) (sheet_of (parts_in t)).events) (sym a.is ∙ e);
     ok = a.ok;
   }
     where
-      go : (o : Option ℕ) → o ≡ some i → o ≡ preferred o (first_of (of_number 1) 0 (lines_at s starts mids n) (sheet_of (parts_in t)).events)
-      go none q = absurd (let z : ◌≡◌ {A = ℕ} 0 1 = cc in omega arith)
-      go (some x) q = refl
+      go : (o : Option ℕ) → o ≡ Some i → o ≡ preferred o (first_of (of_number 1) 0 (lines_at s starts mids n) (sheet_of (parts_in t)).events)
+      go None q = absurd (let z : ◌≡◌ {A = ℕ} 0 1 = cc in omega arith)
+      go (Some x) q = refl
 
-  pub match_exit : {o : Match} → FirstAs 0 t s starts mids n o → o ≡ Nothing → {r : Match} → FirstAs 1 t s starts mids n r → MatchAs t s starts mids n r
+  pub match_exit : {o : (Option ℕ)} → FirstAs 0 t s starts mids n o → o ≡ None → {r : (Option ℕ)} → FirstAs 1 t s starts mids n r → MatchAs t s starts mids n r
   unfolding first_match
   match_exit a e b = record { is = b.is ∙ rw (← a.is, e); ok = b.ok }

@@ -1,19 +1,16 @@
 -- What the code's answers mean: a score that is reached, an event judged clause by clause, the event that is chosen. Assumes nothing.
-use Rattle.std.specs.Prelude.{ℕ, zero, suc, ◌<◌, ◌≡◌, Bool, true, false, cond, List, eqb, ℤ, pos}
-use Rattle.std.proofs.Math.Option.{Option, none, some}
+use Rattle.std.specs.Prelude.{ℕ, zero, suc, ◌<◌, ◌≡◌, Bool, true, false, cond, List, eqb, ℤ, pos, Option, None, Some}
 use Rattle.std.specs.Int.Signed.{le_z}
 use Rattle.sheet.specs.Sheet.{Kind, All, Any, Not, Event as SheetEvent}
 use Rattle.event.specs.Match.{is_opening, is_exit, first_of, first_match}
 use Rattle.event_find.specs.Places.{lines_at}
 use Rattle.table.specs.Layout.{counts_in, parts_in}
 use Rattle.table.specs.Table.{sheet_of}
-use Rattle.table_match.specs.declared.Match.{Match}
-use Rattle.table_match.specs.declared.Match.TheVariants.{Event, Nothing}
 
 -- "the score is at least its own", where one was read
 abbrev pub reached : ℕ → Option ℤ → Bool
-reached own none = false
-reached own (some z) = le_z (pos own) z
+reached own None = false
+reached own (Some z) = le_z (pos own) z
 
 -- what is known of an event after one clause more: 0 nothing yet, 1 an any clause that does not hold, 2 one that holds, 3 no match
 abbrev pub step_of : ℕ → Kind → Bool → ℕ
@@ -29,21 +26,16 @@ abbrev pub of_number : ℕ → SheetEvent → Bool
 of_number zero e = is_opening e
 of_number (suc k) e = is_exit e
 
--- the event that is chosen
-abbrev pub match_of : Match → Option ℕ
-match_of (Event i) = some i
-match_of Nothing = none
-
-abbrev pub Below : ℕ → Match → Type 0
-Below n (Event i) = i < n
-Below n Nothing = Unit {0}
+abbrev pub Below : ℕ → Option ℕ → Type 0
+Below n (Some i) = i < n
+Below n None = Unit {0}
 
 -- r is the first event of that kind that matches
-pub record FirstAs (kind : ℕ) (t s starts mids : List ℕ) (n : ℕ) (r : Match) : Type 0 where
-  pub is : match_of r ≡ first_of (of_number kind) 0 (lines_at s starts mids n) (sheet_of (parts_in t)).events
+pub record FirstAs (kind : ℕ) (t s starts mids : List ℕ) (n : ℕ) (r : Option ℕ) : Type 0 where
+  pub is : r ≡ first_of (of_number kind) 0 (lines_at s starts mids n) (sheet_of (parts_in t)).events
   pub ok : Below (counts_in t).events r
 
 -- r is the first match
-pub record MatchAs (t s starts mids : List ℕ) (n : ℕ) (r : Match) : Type 0 where
-  pub is : match_of r ≡ first_match (sheet_of (parts_in t)).events (lines_at s starts mids n)
+pub record MatchAs (t s starts mids : List ℕ) (n : ℕ) (r : Option ℕ) : Type 0 where
+  pub is : r ≡ first_match (sheet_of (parts_in t)).events (lines_at s starts mids n)
   pub ok : Below (counts_in t).events r

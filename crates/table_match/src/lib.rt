@@ -4,10 +4,9 @@
 // fingerprints of its n lines, as `event_signals::read_signals` leaves them.
 #![tactic(auto)]
 
-ghost use Rattle.std.specs.Prelude.{◌≡◌, true, ◌&&◌, [], ◌<◌, ◌≤◌, length, get_or};
+ghost use Rattle.std.specs.Prelude.{◌≡◌, true, ◌&&◌, [], ◌<◌, ◌≤◌, length, get_or, Some};
 ghost use Rattle.std.proofs.Math.Seq.{slice};
 ghost use Rattle.text.specs.Read.{Part};
-ghost use Rattle.text_number.specs.Read.{int_of};
 ghost use Rattle.signal.specs.Value.{value_of};
 ghost use Rattle.sheet.specs.Sheet.{kind_of};
 ghost use Rattle.event.specs.Match.{agrees as Match·agrees, met_by, holds, matches};
@@ -17,22 +16,16 @@ ghost use Rattle.table.specs.Table.{is_table, text_at};
 ghost use Rattle.table_match.specs.Rows.{text_of, WordAmong, keys_of, values_of, clause_from, event_from, CodeIn, ClauseIn, EventIn};
 ghost use Rattle.table_match.specs.First.{reached, step_of, of_number, FirstAs, MatchAs};
 
-use event_find::{Found, find_line, fingerprint};
-use signal::{ValueRead, read_value};
+use event_find::{find_line, fingerprint};
+use signal::read_value;
 use table::{
     ClauseRow, EventRow, WILD_CODE, clause_at, event_at, read_counts, read_places, word_at,
+    word_text,
 };
 use text::part_eq;
-use text_number::Int;
-
-// The number of the event that is chosen, or none.
-#[derive(Clone, Copy)]
-pub enum Match {
-    Event(usize),
-    Nothing,
-}
 
 // The bytes from..to of a table.
+#[tactic(auto, unfolding(le::specs::Le::part))]
 fn section(t: &[u8], from: u32, to: u32) -> &[u8]
     requires { (from ≤ to) × (to ≤ length t.now) }
     ensures { result.now ≡ between t.now from to }
@@ -45,10 +38,7 @@ fn text_at<'a>(rows: &[u8], texts: &'a [u8], i: usize) -> &'a [u8]
     requires { WordAmong rows.now texts.now i }
     ensures { result.now ≡ text_of rows.now texts.now i }
 {
-    let w = word_at(rows, i);
-    let at = w.at as usize;
-    let len = w.len as usize;
-    &texts[at..at + len]
+    word_text(texts, word_at(rows, i))
 }
 
 // The text of key number k.
@@ -74,14 +64,10 @@ fn value_text(t: &[u8], v: usize) -> &[u8]
 }
 
 // Whether the score of a bar's value is at least a clause's own.
-fn reaches(own: u16, score: Int) -> bool
-    ensures { result ≡ reached own (int_of score) }
+fn reaches(own: u16, score: i32) -> bool
+    ensures { result ≡ reached own (Some score) }
 {
-    match score {
-        Int::Plus(m) => own as u64 <= m,
-        Int::Minus(m) => { if m == 0 { own == 0 } else { false } }
-        Int::Not => false,
-    }
+    own as i32 <= score
 }
 
 // Whether the value with that code is wild, or is v in from..to.
@@ -99,28 +85,19 @@ fn agrees(t: &[u8], code: u16, v: &[u8], from: usize, to: usize) -> bool
 }
 
 // Whether a bar's value v meets a clause.
+#[tactic(auto, using(crate::proofs::Clauses::met_is, crate::proofs::Clauses::clause_v1, crate::proofs::Clauses::clause_v2, crate::proofs::Clauses::clause_v3))]
 fn meets(t: &[u8], c: ClauseRow, v: &[u8]) -> bool
     requires t_value { is_table t.now ≡ true }
     requires clause_in { ClauseIn t.now c }
     ensures { result ≡ met_by (clause_from t.now c).signal (value_of v.now) }
 {
-    let ValueRead::Counts(a) = read_value(v) else {
+    let Some(a) = read_value(v) else {
         return false;
     };
-    let v1 = a.v1;
-    let v2 = a.v2;
-    let v3 = a.v3;
-    let score = a.score;
-    if !reaches(c.score, score) {
-        return false;
-    }
-    if !agrees(t, c.v1, v, 0, v1) {
-        return false;
-    }
-    if !agrees(t, c.v2, v, v1 + 1, v2) {
-        return false;
-    }
-    agrees(t, c.v3, v, v2 + 1, v3)
+    reaches(c.score, a.score)
+        && agrees(t, c.v1, v, 0, a.v1)
+        && agrees(t, c.v2, v, a.v1 + 1, a.v2)
+        && agrees(t, c.v3, v, a.v2 + 1, a.v3)
 }
 
 // Whether a clause holds.
@@ -140,7 +117,7 @@ fn clause_holds(
 {
     let key = key_text(t, c.key as usize);
     let h = fingerprint(key, 0, key.len());
-    let Found::At(i) = find_line(key, h, s, starts, mids, prints, n) else {
+    let Some(i) = find_line(key, h, s, starts, mids, prints, n) else {
         return false;
     };
     let from = mids[i] + 1;
@@ -157,12 +134,12 @@ fn step(k: u8, kind: u16, held: bool) -> u8
         0 => { if held { k } else { 3 } }
         1 => {
             if held {
-                return 2;
+                2
+            } else if k == 0 {
+                1
+            } else {
+                k
             }
-            if k == 0 {
-                return 1;
-            }
-            k
         }
         _ => { if held { 3 } else { k } }
     }
@@ -188,16 +165,12 @@ fn event_matches(
     let first = e.first as usize;
     let end = first + e.count as usize;
     let mut k: u8 = 0;
-    let mut i = first;
-    while i < end {
+    for i in first..end {
         let c = clause_at(rows, i);
-        let kind = c.kind;
-        let r = step(k, kind, clause_holds(t, c, s, starts, mids, prints, n));
-        if r == 3 {
+        k = step(k, c.kind, clause_holds(t, c, s, starts, mids, prints, n));
+        if k == 3 {
             return false;
         }
-        k = r;
-        i += 1;
     }
     k != 1
 }
@@ -219,10 +192,7 @@ fn is_hit(
     requires lines_ok { LinesOk s.now starts.now mids.now prints.now n }
     ensures { result ≡ (of_number kind (event_from t.now e) && matches (lines_at s.now starts.now mids.now n) (event_from t.now e)) }
 {
-    if e.kind % 2 != kind {
-        return false;
-    }
-    event_matches(t, e, s, starts, mids, prints, n)
+    e.kind % 2 == kind && event_matches(t, e, s, starts, mids, prints, n)
 }
 
 // The first event of that kind that matches.
@@ -234,25 +204,22 @@ fn find_event(
     mids: &[usize],
     prints: &[u16],
     n: usize,
-) -> Match
+) -> Option<usize>
     requires t_value { is_table t.now ≡ true }
     requires kind_bound { kind ≤ 1 }
     requires lines_ok { LinesOk s.now starts.now mids.now prints.now n }
     ensures { FirstAs kind t.now s.now starts.now mids.now n result }
 {
-    let counts = read_counts(t);
-    let count = counts.events as usize;
+    let count = read_counts(t).events as usize;
     let p = read_places(t);
     let rows = section(t, p.events, p.clauses);
-    let mut i: usize = 0;
-    while i < count {
+    for i in 0..count {
         let e = event_at(rows, i);
         if is_hit(t, e, kind, s, starts, mids, prints, n) {
-            return Match::Event(i);
+            return Some(i);
         }
-        i += 1;
     }
-    Match::Nothing
+    None
 }
 
 // The first event that matches, openings before exits.
@@ -263,13 +230,13 @@ pub fn first_match(
     mids: &[usize],
     prints: &[u16],
     n: usize,
-) -> Match
+) -> Option<usize>
     requires t_value { is_table t.now ≡ true }
     requires lines_ok { LinesOk s.now starts.now mids.now prints.now n }
     ensures { MatchAs t.now s.now starts.now mids.now n result }
 {
     let opening = find_event(t, 0, s, starts, mids, prints, n);
-    if let Match::Event(_) = opening {
+    if let Some(_) = opening {
         return opening;
     }
     find_event(t, 1, s, starts, mids, prints, n)

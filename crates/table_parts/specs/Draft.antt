@@ -6,20 +6,13 @@ use Rattle.list.specs.Numbered.{numbered}
 use Rattle.le.specs.Le.{part}
 use Rattle.sheet.specs.Places.{clause_numbers, event_numbers, clauses_at, SheetOk}
 use Rattle.sheet.specs.declared.SheetAt.{SheetAt}
-use Rattle.table_wordbook.specs.Wordbook.{words_at, Book}
+use Rattle.table_wordbook.specs.Wordbook.{BookOf, words_of}
+use Rattle.table_wordbook.specs.declared.Words.{Words}
 use Rattle.table.specs.Layout.{Parts}
 use Rattle.table.specs.declared.EventRow.{EventRow}
 use Rattle.table.specs.declared.ClauseRow.{ClauseRow}
 use Rattle.table.specs.declared.WordRow.{WordRow}
 use Rattle.table_parts.specs.Codes.{keys_in, values_in, noted_all, numbers_of, values_noted, codes_of}
-
--- a wordbook of so many words
-pub record Words : Type 0 where
-  pub texts : List ℕ
-  pub starts : List ℕ
-  pub orders : List ℕ
-  pub ranks : List ℕ
-  pub count : ℕ
 
 unfoldable pub word_row : List ℕ → List ℕ → List ℕ → ℕ → WordRow
 word_row starts orders ranks i =
@@ -78,12 +71,6 @@ draft s es cs a numbers codes ks vs =
     }
 
 -- ---- what is known of them when the table is written
-
-abbrev pub BookOf : Words → Type 0
-BookOf w = Book w.texts w.starts w.orders w.ranks w.count
-
-abbrev pub words_of : Words → List (List ℕ)
-words_of w = words_at w.texts w.starts w.count
 
 -- the keys' numbers are in the first places of `numbers`, the values' codes in those of `codes`
 pub record Drafted (s es cs : List ℕ) (a : SheetAt) (numbers codes : List ℕ) (ks vs : Words) : Type 0 where

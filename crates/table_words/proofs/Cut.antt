@@ -2,48 +2,29 @@
 use mathlib.Core.Path.{◌≡◌, ◌∙◌, refl, sym, ap}
 use mathlib.Core.Bool.{Bool, true, false, not, cond, ◌&&◌, ◌||◌, false≢true, and-eq-true_iff}
 use mathlib.Core.List.{List, [], ◌∷◌, ◌++◌}
-use mathlib.Core.Option.{Option, none, some}
-use Prim.Native.Nat.{ℕ, ◌+◌, ◌≤◌, ◌<◌}
-use native.Mathlib.Decide.{dec_le}
+use Rattle.std.specs.Prelude.{Option, None, Some}
+use Prim.Native.Nat.{ℕ, ◌+◌, ◌≤◌}
 use native.Mathlib.Omega.{arith}
-use borrow.Author.Tests.{le-leb, lt-leb, lt-ltb, le-ltb, leb-true}
-use lib.Dec.{leb, ltb, eqb}
-use lib.ListN.{length, get_or, take, drop, take-append-drop, drop_of_length-le}
-use lib.Seq.{drop-cons, drop-drop}
+use borrow.Author.Tests.{leb-true}
+use lib.Dec.{leb, eqb}
+use lib.ListN.{take, drop, take-append-drop}
+use lib.Seq.{drop-drop}
 use Rattle.le.specs.Le.{part}
 use Rattle.text.specs.Text.{has, LF, pipe}
 use Rattle.text.specs.Conditions.{all_of}
 use Rattle.utf8.specs.Utf8.{Range, inside, utf8_tail, after, step, right, utf8}
-use Rattle.utf8.proofs.Laws.{above, below, among, after_under, right-none}
+use Rattle.utf8.proofs.Laws.{above, below, among, right-none}
 use Rattle.utf8.proofs.Joined.{utf8_join}
 use Rattle.table_words.specs.Words.{clean}
 use Rattle.table_words.specs.Read.{plain, is_cut}
-
--- ---- `is_cut`
-
-module _ (s : List ℕ) (i : ℕ) where
-  pub cut-end : length s ≤ i → true ≡ is_cut (drop i s)
-  cut-end h = rw (drop_of_length-le s h)
-
-  module _ (h : i < length s) where
-    pub cut_low : get_or s i 0 < 0x80 → true ≡ is_cut (drop i s)
-    cut_low k = rw (drop-cons s i 0 h, below 0x80 0xbf (get_or s i 0) k)
-
-    pub cut_high : 0x80 ≤ get_or s i 0 → ltb 0xbf (get_or s i 0) ≡ is_cut (drop i s)
-    cut_high k =
-        rw (drop-cons s i 0 h, le-leb 0x80 (get_or s i 0) k)
-        (elim (dec_le (get_or s i 0) 0xbf) [
-          | yes l ↦ le-ltb 0xbf (get_or s i 0) l ∙ sym (ap not (le-leb (get_or s i 0) 0xbf l))
-          | no l ↦ lt-ltb 0xbf (get_or s i 0) (omega arith) ∙ sym (ap not (lt-leb (get_or s i 0) 0xbf (omega arith)))
-        ])
 
 -- ---- UTF-8 cut in two
 
 -- every byte that is still to come is a tail
 unfoldable tailing : Option (List Range) → Bool
-tailing none = true
-tailing (some []) = true
-tailing (some (r ∷ rs)) = (leb 0x80 r.lo && leb r.hi 0xbf) && tailing (some rs)
+tailing None = true
+tailing (Some []) = true
+tailing (Some (r ∷ rs)) = (leb 0x80 r.lo && leb r.hi 0xbf) && tailing (Some rs)
 
 tailing_cond : (t : Bool) (x y : Option (List Range)) → tailing (cond t x y) ≡ cond t (tailing x) (tailing y)
 tailing_cond true x y = refl
@@ -59,9 +40,9 @@ tailing_after b = simp (tailing_cond, cond_same)
 
 tailing_step : (st : Option (List Range)) (b : ℕ) → tailing st ≡ true → tailing (step st b) ≡ true
 unfolding step tailing
-tailing_step none b h = refl
-tailing_step (some []) b h = tailing_after b
-tailing_step (some (r ∷ rs)) b h = rw (tailing_cond, ((and-eq-true_iff (leb 0x80 r.lo && leb r.hi 0xbf) (tailing (some rs))).0 h).1, cond_same)
+tailing_step None b h = refl
+tailing_step (Some []) b h = tailing_after b
+tailing_step (Some (r ∷ rs)) b h = rw (tailing_cond, ((and-eq-true_iff (leb 0x80 r.lo && leb r.hi 0xbf) (tailing (Some rs))).0 h).1, cond_same)
 
 -- a byte in a range of tails is a tail
 tailed : (r : Range) (b : ℕ) → (leb 0x80 r.lo && leb r.hi 0xbf) ≡ true → inside utf8_tail b ≡ false → inside r b ≡ false
@@ -84,17 +65,33 @@ not_false false e = refl
 
 right-cut : (st : Option (List Range)) (a b : List ℕ) → tailing st ≡ true → right st (a ++ b) ≡ true → is_cut b ≡ true → right st a ≡ true
 unfolding right step tailing
-right-cut none [] b h e k = absurd (false≢true (sym (right-none b) ∙ e))
-right-cut (some []) [] b h e k = refl
-right-cut (some (r ∷ rs)) [] [] h e k = e
-right-cut (some (r ∷ rs)) [] (x ∷ l) h e k =
-    let n = tailed r x ((and-eq-true_iff _ (tailing (some rs))).0 h).0 (not_false (inside utf8_tail x) k) in
-    absurd (false≢true (sym (ap (λ t. right (cond t (some rs) none) l) n ∙ right-none l) ∙ e))
+right-cut None [] b h e k = absurd (false≢true (sym (right-none b) ∙ e))
+right-cut (Some []) [] b h e k = refl
+right-cut (Some (r ∷ rs)) [] [] h e k = e
+right-cut (Some (r ∷ rs)) [] (x ∷ l) h e k =
+    let n = tailed r x ((and-eq-true_iff _ (tailing (Some rs))).0 h).0 (not_false (inside utf8_tail x) k) in
+    absurd (false≢true (sym (ap (λ t. right (cond t (Some rs) None) l) n ∙ right-none l) ∙ e))
 right-cut st (x ∷ a) b h e k = right-cut (step st x) a b (tailing_step st x h) e k
 
 utf8-cut : (a b : List ℕ) → utf8 (a ++ b) ≡ true → is_cut b ≡ true → utf8 a ≡ true
 unfolding utf8 tailing
-utf8-cut a b e k = right-cut (some []) a b refl e k
+utf8-cut a b e k = right-cut (Some []) a b refl e k
+
+-- no character starts with a tail
+after-tail : (b : ℕ) → 0x80 ≤ b → b ≤ 0xbf → after b ≡ None
+unfolding after
+after-tail b h k =
+    rw (
+      above 0x00 0x7f b (omega arith),
+      below 0xc2 0xdf b (omega arith),
+      below 0xe0 0xe0 b (omega arith),
+      below 0xe1 0xec b (omega arith),
+      below 0xed 0xed b (omega arith),
+      below 0xee 0xef b (omega arith),
+      below 0xf0 0xf0 b (omega arith),
+      below 0xf1 0xf3 b (omega arith),
+      below 0xf4 0xf4 b (omega arith),
+    )
 
 -- no text starts with a tail
 utf8_tail_lem : (b : List ℕ) → is_cut b ≡ false → utf8 b ≡ false
@@ -106,7 +103,7 @@ utf8_tail_lem (x ∷ l) k = go (leb 0x80 x) (leb x 0xbf) refl refl k
     go true true e f g =
         let lo = leb-true 0x80 x e in
         let hi = leb-true x 0xbf f in
-        rw (after_under x (omega arith) (omega arith)) (right-none l)
+        rw (after-tail x lo hi) (right-none l)
     go true false e f g = absurd (false≢true (sym g))
     go false q e f g = absurd (false≢true (sym g))
 

@@ -12,56 +12,39 @@ use text::{LF, PIPE};
 fn met(m: u8, b: u8, x: u8) -> u8
     ensures { result ≡ cond (eqb b x) 1 m }
 {
-    if b == x {
-        return 1;
-    }
-    m
+    if b == x { 1 } else { m }
 }
 
 // Whether no byte of s is x: the loop has no way out before the end, so that the compiler looks at many bytes at once.
 fn lacks(s: &[u8], x: u8) -> bool
     ensures { result ≡ not (has x s.now) }
 {
-    let n = s.len();
     let mut m: u8 = 0;
-    let mut i: usize = 0;
-    while i < n {
+    for i in 0..s.len() {
         m = met(m, s[i], x);
-        i += 1;
     }
     m == 0
 }
 
 // Whether s is free of | and LF.
+#[tactic(auto, unfolding(text::specs::Conditions::all_of))]
 fn is_plain(s: &[u8]) -> bool
     ensures { result ≡ plain s.now }
 {
-    if lacks(s, PIPE) {
-        return lacks(s, LF);
-    }
-    false
+    lacks(s, PIPE) && lacks(s, LF)
 }
 
 // Whether s may stand in a table.
+#[tactic(auto, unfolding(text::specs::Conditions::all_of, crate::specs::Words::clean))]
 pub fn is_clean(s: &[u8]) -> bool
     ensures { result ≡ clean s.now }
 {
-    if utf8_text::valid(s) {
-        return is_plain(s);
-    }
-    false
+    utf8_text::valid(s) && is_plain(s)
 }
 
 // Whether s may be cut at i: no tail of a character stands there.
 pub fn is_cut(s: &[u8], i: usize) -> bool
     ensures { result ≡ is_cut (drop i s.now) }
 {
-    if s.len() <= i {
-        return true;
-    }
-    let b = s[i];
-    if b < 0x80 {
-        return true;
-    }
-    0xbf < b
+    s.len() <= i || !(0x80..=0xbf).contains(&s[i])
 }

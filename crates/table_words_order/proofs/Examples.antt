@@ -2,10 +2,10 @@
 use mathlib.Core.Path.{◌≡◌, refl}
 use Rattle.text.specs.Literal.{bytes}
 use Rattle.table_words_order.specs.Read.{order_of}
-use Rattle.table_words_order.specs.declared.Order.TheVariants.{Less, Same, More}
+use Rattle.std.specs.declared.cmp.Ordering.TheVariants.{Less, Equal, Greater}
 use Rattle.table_words_order.proofs.Opened.{opened}
 
 -- the shorter of two texts with a common start comes first
-orders : (order_of (bytes "ab") (bytes "abc") ≡ Less) × (order_of (bytes "b") (bytes "abc") ≡ More) × (order_of (bytes "ab") (bytes "ab") ≡ Same)
+orders : (order_of (bytes "ab") (bytes "abc") ≡ Less) × (order_of (bytes "b") (bytes "abc") ≡ Greater) × (order_of (bytes "ab") (bytes "ab") ≡ Equal)
 unfolding opened
 orders = (refl, refl, refl)

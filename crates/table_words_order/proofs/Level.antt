@@ -1,9 +1,12 @@
 -- Texts that are the same up to a place: one byte more, eight at once, and what `compare` concludes. Assumes nothing.
 use mathlib.Core.Path.{◌≡◌, ◌∙◌, refl, sym}
+use mathlib.Core.Logic.{◌≢◌}
+use Rattle.std.specs.Ordering.{nat_cmp}
 use mathlib.Core.Bool.{Bool, true, false, not, ◌||◌, false≢true}
 use mathlib.Core.List.{List, ◌∷◌}
-use Prim.Native.Nat.{ℕ, ◌+◌, ◌≤◌, ◌<◌}
+use Prim.Native.Nat.{ℕ, ◌+◌, min, ◌≤◌, ◌<◌}
 use native.Mathlib.Numerals.{add-one}
+use native.Mathlib.Decide.{dec_lt}
 use native.Mathlib.Omega.{arith}
 use borrow.Author.Tests.{eq-eqb, ne_eqb, lt-ltb, le-ltb, eqb-true}
 use lib.Dec.{eqb}
@@ -12,7 +15,6 @@ use lib.Seq.{drop-cons}
 use Rattle.text.specs.Text.{same}
 use Rattle.table_words.specs.Words.{less}
 use Rattle.table_words_order.specs.Read.{order_of, Level}
-use Rattle.table_words_order.specs.declared.Order.TheVariants.{Less, Same, More}
 
 pub level_none : (a b : List ℕ) (i : ℕ) → i ≤ length a → i ≤ length b → Level a b i i
 level_none a b i h k = record { le = h; also = k; still = refl }
@@ -70,27 +72,23 @@ module _ {a b : List ℕ} {i : ℕ} {other : Bool} {k : ℕ} (c : Block a b i ot
 -- ---- `compare`
 
 module _ {a b : List ℕ} {i : ℕ} (c : Level a b 0 i) where
-  pub level_short : i < length a → length b ≤ i → More ≡ order_of a b
+  -- the bytes at i are the first that differ
+  pub level_differ : i < length a → i < length b → get_or a i 0 ≢ get_or b i 0 → nat_cmp (get_or a i 0) (get_or b i 0) ≡ order_of a b
   unfolding order_of less same
-  level_short h k = sym (c.still ∙ rw (drop-cons a i 0 h, drop_of_length-le b k))
+  level_differ h k e = sym (level_at c h k ∙ rw (ne_eqb (get_or a i 0) (get_or b i 0) e))
 
-  pub level_long : length a ≤ i → length a < length b → Less ≡ order_of a b
+  -- one of the texts ends at i
+  pub level_last : min (length a) (length b) ≤ i → nat_cmp (length a) (length b) ≡ order_of a b
   unfolding order_of less same
-  level_long h k = sym (c.still ∙ rw (drop_of_length-le a h, drop-cons b i 0 (omega arith)))
-
-  pub level_last : length a ≤ i → length b ≤ length a → Same ≡ order_of a b
-  unfolding order_of less same
-  level_last h k = sym (c.still ∙ rw (drop_of_length-le a h, drop_of_length-le b {i = i} (omega arith)))
-
-  module _ (h : i < length a) (k : i < length b) where
-    pub level_less : get_or a i 0 < get_or b i 0 → Less ≡ order_of a b
-    unfolding order_of less same
-    level_less l = sym (level_at c h k ∙ rw (ne_eqb (get_or a i 0) (get_or b i 0) (omega arith), lt-ltb _ _ l))
-
-    module _ (m : get_or b i 0 ≤ get_or a i 0) where
-      pub level_greater : get_or b i 0 < get_or a i 0 → More ≡ order_of a b
-      unfolding order_of less same
-      level_greater l = sym (level_at c h k ∙ rw (ne_eqb (get_or a i 0) (get_or b i 0) (omega arith), le-ltb _ _ m))
-
-      pub level_next : get_or a i 0 ≤ get_or b i 0 → Level a b 0 (i + 1)
-      level_next l = level_more c h k (omega arith)
+  level_last h = elim (dec_lt (length a) (length b)) [
+    | yes l ↦
+        rw (lt-ltb (length a) (length b) l) (sym (c.still ∙ rw (drop_of_length-le a {i = i} (omega arith), drop-cons b i 0 (omega (arith, c.le)))))
+    | no l ↦ elim (dec_lt (length b) (length a)) [
+      | yes m ↦
+          rw (le-ltb (length a) (length b) (omega arith), ne_eqb (length a) (length b) (omega arith))
+          (sym (c.still ∙ rw (drop_of_length-le b {i = i} (omega arith), drop-cons a i 0 (omega (arith, c.also)))))
+      | no m ↦
+          rw (le-ltb (length a) (length b) (omega arith), eq-eqb (length a) (length b) (omega arith))
+          (sym (c.still ∙ rw (drop_of_length-le a {i = i} (omega arith), drop_of_length-le b {i = i} (omega arith))))
+    ]
+  ]

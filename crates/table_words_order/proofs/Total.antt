@@ -11,7 +11,7 @@ use Rattle.text.specs.Text.{same}
 use Rattle.text.proofs.Same.{same_refl, same_eq}
 use Rattle.table_words.specs.Words.{less}
 use Rattle.table_words_order.specs.Read.{order_of}
-use Rattle.table_words_order.specs.declared.Order.TheVariants.{Less, Same, More}
+use Rattle.std.specs.declared.cmp.Ordering.TheVariants.{Less, Equal, Greater}
 
 -- ---- a total order
 
@@ -62,25 +62,25 @@ pub order-less : (a b : List ℕ) → Less ≡ order_of a b → less a b ≡ tru
 unfolding order_of
 order-less a b e = go (less a b) (same a b) e
   where
-    go : (l s : Bool) → Less ≡ cond l Less (cond s Same More) → l ≡ true
+    go : (l s : Bool) → Less ≡ cond l Less (cond s Equal Greater) → l ≡ true
     go true s k = refl
     go false true k = absurd (false≢true (cc))
     go false false k = absurd (false≢true (cc))
 
-pub order_same : (a b : List ℕ) → Same ≡ order_of a b → a ≡ b
+pub order_same : (a b : List ℕ) → Equal ≡ order_of a b → a ≡ b
 unfolding order_of
 order_same a b e = go (less a b) (same a b) refl e
   where
-    go : (l s : Bool) → same a b ≡ s → Same ≡ cond l Less (cond s Same More) → a ≡ b
+    go : (l s : Bool) → same a b ≡ s → Equal ≡ cond l Less (cond s Equal Greater) → a ≡ b
     go true s h k = absurd (false≢true (cc))
     go false true h k = same_eq a b h
     go false false h k = absurd (false≢true (cc))
 
-pub order-more : (a b : List ℕ) → More ≡ order_of a b → less b a ≡ true
+pub order-more : (a b : List ℕ) → Greater ≡ order_of a b → less b a ≡ true
 unfolding order_of
 order-more a b e = go (less a b) (same a b) refl refl e
   where
-    go : (l s : Bool) → less a b ≡ l → same a b ≡ s → More ≡ cond l Less (cond s Same More) → less b a ≡ true
+    go : (l s : Bool) → less a b ≡ l → same a b ≡ s → Greater ≡ cond l Less (cond s Equal Greater) → less b a ≡ true
     go true s g h k = absurd (false≢true (cc))
     go false true g h k = absurd (false≢true (cc))
     go false false g h k = less_total a b g (λ q. false≢true (sym h ∙ rw q (same_refl b)))

@@ -40,26 +40,28 @@ fit-one (suc n) p ps h =
     go true false o = refl
     go false l o = refl
 
--- the parts from `at` on are still to be looked at, and `left` of them may be there
-pub record Parted (s : List ℕ) (limit left at : ℕ) : Type 0 where
+-- k parts were looked at, those from `at` on are still to be, and all but k of limit may be there
+pub record Parted (s : List ℕ) (limit k at : ℕ) : Type 0 where
   pub within : at ≤ length s
-  pub still : fit limit (split underscore s) ≡ fit left (parts_from s at)
+  pub still : fit limit (split underscore s) ≡ fit (limit - k) (parts_from s at)
 
-pub parted_first : (s : List ℕ) (limit : ℕ) → Parted s limit limit 0
-parted_first s limit = record { within = omega arith; still = rw (parts_all s) }
+pub parted_first : (s : List ℕ) (limit : ℕ) → Parted s limit 0 0
+parted_first s limit =
+    let e : limit - 0 ≡ limit = omega arith in
+    record { within = omega arith; still = rw (parts_all s, e) }
 
-module _ {s : List ℕ} {limit left at : ℕ} (c : Parted s limit left at) where
-  pub parted_last : left ≤ 0 → false ≡ fit limit (split underscore s)
+module _ {s : List ℕ} {limit k at : ℕ} (c : Parted s limit k at) where
+  pub parted_last : limit ≤ k → false ≡ fit limit (split underscore s)
   parted_last h =
-      let e : left ≡ 0 = omega arith in
+      let e : limit - k ≡ 0 = omega arith in
       sym (c.still ∙ rw e (fit_none (parts_from s at) (split_some underscore (slice at (length s) s))))
 
-  module _ {r : ℕ} (h : 0 < left) (f : FirstAt s at (length s) underscore r) where
-    only : r ≡ length s → fit limit (split underscore s) ≡ cond (is_wild (slice at r s)) false (fit (left - 1) [])
-    only e = c.still ∙ rw (parts_last c.within f e, e) (fit-one left (slice at (length s) s) [] h)
+  module _ {r : ℕ} (h : k < limit) (f : FirstAt s at (length s) underscore r) where
+    only : r ≡ length s → fit limit (split underscore s) ≡ cond (is_wild (slice at r s)) false (fit (limit - k - 1) [])
+    only e = c.still ∙ rw (parts_last c.within f e, e) (fit-one (limit - k) (slice at (length s) s) [] (omega arith))
 
-    next : r ≢ length s → fit limit (split underscore s) ≡ cond (is_wild (slice at r s)) false (fit (left - 1) (parts_from s (r + 1)))
-    next n = c.still ∙ rw (parts_next c.within f n) (fit-one left (slice at r s) (parts_from s (r + 1)) h)
+    next : r ≢ length s → fit limit (split underscore s) ≡ cond (is_wild (slice at r s)) false (fit (limit - k - 1) (parts_from s (r + 1)))
+    next n = c.still ∙ rw (parts_next c.within f n) (fit-one (limit - k) (slice at r s) (parts_from s (r + 1)) (omega arith))
 
     pub parted_wild : is_wild (slice at r s) ≡ true → false ≡ fit limit (split underscore s)
     parted_wild w = elim (dec_lt r (length s)) [ yes l ↦ sym (next (omega arith) ∙ rw w) | no l ↦ sym (only (omega (arith, f.high)) ∙ rw w) ]
@@ -67,7 +69,9 @@ module _ {s : List ℕ} {limit left at : ℕ} (c : Parted s limit left at) where
     module _ (w : is_wild (slice at r s) ≡ false) where
       pub parted_end : r ≡ length s → true ≡ fit limit (split underscore s)
       unfolding all_of every
-      parted_end e = sym (only e ∙ rw (w, le-leb 0 (left - 1) (omega arith)))
+      parted_end e = sym (only e ∙ rw (w, le-leb 0 (limit - k - 1) (omega arith)))
 
-      pub parted_more : r ≢ length s → Parted s limit (left - 1) (r + 1)
-      parted_more n = record { within = omega (arith, f.high); still = next n ∙ rw w }
+      pub parted_more : r ≢ length s → Parted s limit (k + 1) (r + 1)
+      parted_more n =
+          let e : limit - (k + 1) ≡ limit - k - 1 = omega arith in
+          record { within = omega (arith, f.high); still = next n ∙ rw (w, e) }

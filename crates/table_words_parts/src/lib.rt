@@ -13,9 +13,10 @@ fn met_pair(m: u8, a: u8, b: u8) -> u8
     ensures { result ≡ 0 → (m ≡ 0) × (is_pair a b ≡ false) }
 {
     if 256 * (a as u16) + b as u16 == 0xbbbb {
-        return 1;
+        1
+    } else {
+        m
     }
-    m
 }
 
 // Whether no text in s can be the wildcard, since its second and third byte stand nowhere side by side: the loop has no way out before
@@ -23,12 +24,9 @@ fn met_pair(m: u8, a: u8, b: u8) -> u8
 pub fn is_tame(s: &[u8]) -> bool
     ensures { result ≡ true → paired s.now ≡ false }
 {
-    let n = s.len();
     let mut m: u8 = 0;
-    let mut i: usize = 1;
-    while i < n {
+    for i in 1..s.len() {
         m = met_pair(m, s[i - 1], s[i]);
-        i += 1;
     }
     m == 0
 }
@@ -37,10 +35,7 @@ pub fn is_tame(s: &[u8]) -> bool
 fn one(b: u8) -> u8
     ensures { (result ≡ cond (eqb b underscore) 1 0) × (result ≤ 1) }
 {
-    if b == UNDERSCORE {
-        return 1;
-    }
-    0
+    u8::from(b == UNDERSCORE)
 }
 
 // How many of the eight bytes of s from i on are underscores: the loop has no way out before the end, so that the compiler looks at them at once.
@@ -49,10 +44,8 @@ fn count_block(s: &[u8], i: usize) -> usize
     ensures { (result ≤ 8) × (occurrences underscore (drop i s.now) ≡ result + occurrences underscore (drop (i + 8) s.now)) }
 {
     let mut c: u8 = 0;
-    let mut k: usize = 0;
-    while k < 8 {
+    for k in 0..8 {
         c += one(s[i + k]);
-        k += 1;
     }
     c as usize
 }
@@ -63,13 +56,11 @@ fn count_blocks(s: &[u8], n: usize, limit: usize) -> usize
     ensures { Counted s.now (8 * n) limit result }
 {
     let mut c: usize = 0;
-    let mut j: usize = 0;
-    while j < n {
+    for j in 0..n {
         c += count_block(s, 8 * j);
         if limit <= c {
             return c;
         }
-        j += 1;
     }
     c
 }
@@ -80,15 +71,12 @@ fn few_behind(s: &[u8], i: usize, c: usize, limit: usize) -> bool
     requires c_lt_limit { c < limit }
     ensures { result ≡ ltb (c + occurrences underscore (drop i s.now)) limit }
 {
-    let n = s.len();
     let mut d = c;
-    let mut j = i;
-    while j < n {
+    for j in i..s.len() {
         d += one(s[j]) as usize;
         if limit <= d {
             return false;
         }
-        j += 1;
     }
     true
 }
@@ -98,9 +86,8 @@ fn parts_fit(s: &[u8], limit: usize) -> bool
     ensures { result ≡ fit limit (split underscore s.now) }
 {
     let n = s.len();
-    let mut left = limit;
     let mut at: usize = 0;
-    while 0 < left {
+    for _part in 0..limit {
         let e = find(s, at, n, UNDERSCORE);
         if is_wild(s, at, e) {
             return false;
@@ -108,7 +95,6 @@ fn parts_fit(s: &[u8], limit: usize) -> bool
         if e == n {
             return true;
         }
-        left -= 1;
         at = e + 1;
     }
     false
@@ -125,8 +111,5 @@ pub fn few_parts(s: &[u8], limit: usize, tame: bool) -> bool
     }
     let n = s.len() / 8;
     let c = count_blocks(s, n, limit);
-    if limit <= c {
-        return false;
-    }
-    few_behind(s, 8 * n, c, limit)
+    c < limit && few_behind(s, 8 * n, c, limit)
 }

@@ -11,10 +11,11 @@ use Rattle.table_layout.specs.Fits.{SettingsFit, EventFits, Sized}
 use Rattle.table_layout.proofs.Table.{used_fits}
 use Rattle.table_layout.proofs.Sized.{numbered-all}
 use Rattle.table_wordbook.specs.Wordbook.{Book}
-use Rattle.table_parts.specs.Draft.{Words, event_row, names_length, draft, Drafted}
+use Rattle.table_wordbook.specs.declared.Words.{Words}
+use Rattle.table_parts.specs.Draft.{event_row, names_length, draft, Drafted}
 use Rattle.table_write_rows.specs.Rows.{WordsFit}
 use Rattle.table_write_head.specs.Head.{settings_of}
-use Rattle.table_write.specs.Fits.{TextsFit, words_length, TableFits}
+use Rattle.table_write.specs.Fits.{TextsFit, TableFits}
 use Rattle.table_write.proofs.Table.{places-are}
 
 -- a name's place fits where its event's row does
@@ -34,7 +35,7 @@ words-fit b = record {
 }
 
 module _ {s es cs : List ℕ} {a : SheetAt} {numbers codes : List ℕ} {ks vs : Words} (d : Drafted s es cs a numbers codes ks vs) where
-  texts-fit : event_numbers * a.events ≤ length es → TextsFit s es a ks.texts (words_length ks) vs.texts (words_length vs)
+  texts-fit : event_numbers * a.events ≤ length es → TextsFit s es a ks vs
   texts-fit h =
       let k = d.sheet in
       record {

@@ -13,11 +13,13 @@ use Rattle.le.specs.Field.{put32}
 use Rattle.table.specs.Layout.{table_length, layout_number, Parts}
 use Rattle.table_layout.specs.Build.{event_bytes, clause_bytes, word_bytes, row_bytes, settings_bytes, counts_bytes, places_bytes, counts_for, places_for, head_bytes, body_bytes, used_bytes, table_of}
 use Rattle.table_layout.proofs.Fill.{put_table}
-use Rattle.table_parts.specs.Draft.{Words, word_row, word_rows, word_texts, clause_row, clause_rows, names_at, names_length, event_row, event_rows, draft}
+use Rattle.table_wordbook.specs.Wordbook.{words_length}
+use Rattle.table_wordbook.specs.declared.Words.{Words}
+use Rattle.table_parts.specs.Draft.{word_row, word_rows, word_texts, clause_row, clause_rows, names_at, names_length, event_row, event_rows, draft}
 use Rattle.table_parts.proofs.Events.{names-within}
 use Rattle.table_write_rows.specs.Rows.{PutOf}
 use Rattle.table_write_head.specs.Head.{settings_of, counts_of}
-use Rattle.table_write.specs.Fits.{NamesFit, TextsFit, words_length, places_kept, TableFits}
+use Rattle.table_write.specs.Fits.{NamesFit, TextsFit, places_kept, TableFits}
 
 -- the names are as long as they say
 names-length : {s es : List ℕ} {n : ℕ} → NamesFit s es n → (i : ℕ) → i ≤ n → length (names_at s es i) ≡ names_length es i
@@ -25,7 +27,7 @@ names-length {s} {es} {n} f = names-within s es n f.each
 
 -- ---- the counts and places of the draft
 
-module _ (s es cs : List ℕ) (a : SheetAt) (numbers codes : List ℕ) (ks vs : Words) (t : TextsFit s es a ks.texts (words_length ks) vs.texts (words_length vs)) where
+module _ (s es cs : List ℕ) (a : SheetAt) (numbers codes : List ℕ) (ks vs : Words) (t : TextsFit s es a ks vs) where
   events-count : length (event_rows es a.events) ≡ a.events
   events-count = numbered-length (event_row es) a.events
 

@@ -7,7 +7,9 @@ use Rattle.table.specs.Layout.{table_length}
 use Rattle.table.specs.declared.Places.{Places}
 use Rattle.table_layout.specs.Build.{places_of}
 use Rattle.table_layout.specs.Fits.{SettingsFit}
-use Rattle.table_parts.specs.Draft.{Words, names_length}
+use Rattle.table_wordbook.specs.Wordbook.{words_length}
+use Rattle.table_wordbook.specs.declared.Words.{Words}
+use Rattle.table_parts.specs.Draft.{names_length}
 use Rattle.table_write_rows.specs.Rows.{EventsFit, ClausesFit, WordsFit}
 use Rattle.table_write_head.specs.Head.{settings_of, counts_of}
 
@@ -18,20 +20,16 @@ pub record NamesFit (s es : List ℕ) (n : ℕ) : Type 0 where
   pub room : event_numbers * n ≤ length es
   pub each : (i : ℕ) → i < n → get_or (drop (event_numbers * i) es) 2 0 + get_or (drop (event_numbers * i) es) 3 0 ≤ length s
 
--- the position's name and symbol and the events' names stand in s, the keys in ktexts, the values in vtexts
-pub record TextsFit (s es : List ℕ) (a : SheetAt) (ktexts : List ℕ) (k : ℕ) (vtexts : List ℕ) (v : ℕ) : Type 0 where
+-- the position's name and symbol and the events' names stand in s, the keys and the values in their books
+pub record TextsFit (s es : List ℕ) (a : SheetAt) (ks vs : Words) : Type 0 where
   pub name : 2 ≤ a.name
   pub symbol : a.name < a.symbol
   pub within : a.symbol ≤ length s
   pub names : NamesFit s es a.events
-  pub keys : k ≤ length ktexts
-  pub values : v ≤ length vtexts
+  pub keys : words_length ks ≤ length ks.texts
+  pub values : words_length vs ≤ length vs.texts
 
 -- ---- the table
-
--- how long all words are together
-abbrev pub words_length : Words → ℕ
-words_length w = get_or w.starts w.count 0
 
 -- the places of its parts
 abbrev pub places_kept : List ℕ → SheetAt → Words → Words → Places
@@ -43,5 +41,5 @@ pub record TableFits (s es cs : List ℕ) (a : SheetAt) (numbers codes : List �
   pub clauses : ClausesFit cs numbers codes a.clauses
   pub keys : WordsFit ks.starts ks.orders ks.ranks ks.count
   pub values : WordsFit vs.starts vs.orders vs.ranks vs.count
-  pub texts : TextsFit s es a ks.texts (words_length ks) vs.texts (words_length vs)
+  pub texts : TextsFit s es a ks vs
   pub room : (places_kept es a ks vs).used ≤ table_length

@@ -3,18 +3,20 @@
 // A function that puts something writes it to dst from `at` on, and answers the place behind it.
 #![tactic(auto)]
 
-ghost use Rattle.std.specs.Prelude.{◌≡◌, ◌++◌, ◌+◌, ◌-◌, ◌*◌, ◌≤◌, length, get_or};
+ghost use Rattle.std.specs.Prelude.{◌≡◌, ◌++◌, ◌+◌, ◌-◌, ◌*◌, ◌<◌, ◌≤◌, length, get_or};
 ghost use Rattle.std.proofs.Math.Seq.{slice};
 ghost use Rattle.le.specs.Le.{part};
 ghost use Rattle.text.specs.Read.{Part, Put};
 ghost use Rattle.sheet.specs.Places.{event_numbers};
 ghost use Rattle.table.specs.Layout.{table_length, event_length, clause_length};
 ghost use Rattle.table_layout.specs.Build.{event_bytes, clause_bytes, row_bytes, table_of};
-ghost use Rattle.table_parts.specs.Draft.{clause_rows, event_rows, names_at, names_length, draft};
+ghost use Rattle.table_wordbook.specs.Wordbook.{words_length};
+ghost use Rattle.table_parts.specs.Draft.{clause_rows, event_rows, names_at, names_length, word_texts, draft};
 ghost use Rattle.table_write_rows.specs.Rows.{PutOf, EventsFit, ClausesFit};
 ghost use Rattle.table_write.specs.Fits.{NamesFit, TextsFit, TableFits};
 
 use sheet::{EVENT_NUMBERS, SheetAt};
+use table_wordbook::Words;
 use table_write_head::put_head;
 use table_write_rows::{put_clauses, put_events, put_words};
 use text::clear;
@@ -47,11 +49,9 @@ fn put_names(dst: &mut [u8], at: usize, s: &[u8], es: &[u16], n: usize) -> usize
     ensures { PutOf (names_length es.now n) dst.old dst.new at (names_at s.now es.now n) result }
 {
     let mut p = at;
-    let mut i = 0;
-    while i < n {
+    for i in 0..n {
         let b = EVENT_NUMBERS * i;
         p = put_name(dst, p, s, &es[b..]);
-        i += 1;
     }
     p
 }
@@ -63,10 +63,8 @@ fn names_length(es: &[u16], n: usize) -> usize
     ensures { result ≡ names_length es.now n }
 {
     let mut sum = 0;
-    let mut i = 0;
-    while i < n {
+    for i in 0..n {
         sum += es[EVENT_NUMBERS * i + 3] as usize;
-        i += 1;
     }
     sum
 }
@@ -90,31 +88,31 @@ fn put_rows(
     put_clauses(dst, p, cs, numbers, codes, a.clauses)
 }
 
-// Writes all texts: the position's name and symbol, the events' names, the k bytes of the keys and the v bytes of the values.
+// Writes all texts: the position's name and symbol, the events' names, the keys and the values.
 fn put_texts(
     dst: &mut [u8],
     at: usize,
     s: &[u8],
     es: &[u16],
     a: SheetAt,
-    ktexts: &[u8],
-    k: usize,
-    vtexts: &[u8],
-    v: usize,
+    keys: &Words,
+    values: &Words,
 ) -> usize
-    requires texts_fit { TextsFit s.now es.now a ktexts.now k vtexts.now v }
-    requires v_in_bounds { at + (a.name - 2) + (a.symbol - (a.name + 1)) + names_length es.now a.events + k + v ≤ length dst.old }
-    ensures { Put dst.old dst.new at (slice 2 a.name s.now ++ slice (a.name + 1) a.symbol s.now ++ names_at s.now es.now a.events ++ slice 0 k ktexts.now ++ slice 0 v vtexts.now) result }
+    requires texts_fit { TextsFit s.now es.now a keys.now values.now }
+    requires keys_end { keys.now.count < length keys.now.starts }
+    requires values_end { values.now.count < length values.now.starts }
+    requires texts_in_bounds { at + (a.name - 2) + (a.symbol - (a.name + 1)) + names_length es.now a.events + words_length keys.now + words_length values.now ≤ length dst.old }
+    ensures { Put dst.old dst.new at (slice 2 a.name s.now ++ slice (a.name + 1) a.symbol s.now ++ names_at s.now es.now a.events ++ word_texts keys.now ++ word_texts values.now) result }
 {
     let p = put_text(dst, at, s, 2, a.name);
     let p = put_text(dst, p, s, a.name + 1, a.symbol);
     let p = put_names(dst, p, s, es, a.events);
-    let p = put_text(dst, p, ktexts, 0, k);
-    put_text(dst, p, vtexts, 0, v)
+    let p = put_text(dst, p, &keys.texts, 0, keys.end());
+    put_text(dst, p, &values.texts, 0, values.end())
 }
 
 // Writes the table of a sheet that was read from s: es and cs have the numbers of its events and clauses, `numbers` and `codes` their keys
-// and values; then come the k keys and the v values, with their texts, starts, orders and ranks.
+// and values; then come the keys and the values themselves.
 pub fn put_table(
     table: &mut [u8],
     s: &[u8],
@@ -123,28 +121,20 @@ pub fn put_table(
     a: SheetAt,
     numbers: &[u16],
     codes: &[u16],
-    ktexts: &[u8],
-    kstarts: &[u16],
-    korders: &[u16],
-    kranks: &[u16],
-    k: usize,
-    vtexts: &[u8],
-    vstarts: &[u16],
-    vorders: &[u16],
-    vranks: &[u16],
-    v: usize,
+    keys: &Words,
+    values: &Words,
 )
     requires table_len { length table.old ≡ table_length }
-    requires table_fits { TableFits s.now es.now cs.now a numbers.now codes.now (record { texts = ktexts.now; starts = kstarts.now; orders = korders.now; ranks = kranks.now; count = k }) (record { texts = vtexts.now; starts = vstarts.now; orders = vorders.now; ranks = vranks.now; count = v }) }
-    ensures { table.new ≡ table_of (draft s.now es.now cs.now a numbers.now codes.now (record { texts = ktexts.now; starts = kstarts.now; orders = korders.now; ranks = kranks.now; count = k }) (record { texts = vtexts.now; starts = vstarts.now; orders = vorders.now; ranks = vranks.now; count = v })) }
+    requires table_fits { TableFits s.now es.now cs.now a numbers.now codes.now keys.now values.now }
+    ensures { table.new ≡ table_of (draft s.now es.now cs.now a numbers.now codes.now keys.now values.now) }
 {
     clear(table);
-    let keytexts = kstarts[k] as usize;
-    let valuetexts = vstarts[v] as usize;
+    let k = keys.count;
+    let v = values.count;
     let names = names_length(es, a.events);
-    let p = put_head(table, 0, a, k, v, names, keytexts, valuetexts);
+    let p = put_head(table, 0, a, k, v, names, keys.end(), values.end());
     let p = put_rows(table, p, es, cs, a, numbers, codes);
-    let p = put_words(table, p, kstarts, korders, kranks, k);
-    let p = put_words(table, p, vstarts, vorders, vranks, v);
-    put_texts(table, p, s, es, a, ktexts, keytexts, vtexts, valuetexts);
+    let p = put_words(table, p, &keys.starts, &keys.orders, &keys.ranks, k);
+    let p = put_words(table, p, &values.starts, &values.orders, &values.ranks, v);
+    put_texts(table, p, s, es, a, keys, values);
 }

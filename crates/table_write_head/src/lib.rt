@@ -77,12 +77,12 @@ fn places_of(c: Counts, names: u32, keys: u32, values: u32) -> Places
     let valuetexts = keytexts + keys;
     Places {
         events: HEAD_LENGTH,
-        clauses: clauses,
+        clauses,
         keys: keyrows,
         values: valuerows,
-        texts: texts,
+        texts,
         names: first,
-        keytexts: keytexts,
+        keytexts,
         valuetexts: valuetexts,
         used: valuetexts + values,
     }

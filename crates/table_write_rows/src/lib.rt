@@ -63,13 +63,11 @@ pub fn put_events(dst: &mut [u8], at: usize, es: &[u16], n: usize) -> usize
 {
     let mut p = at;
     let mut names = 0;
-    let mut i = 0;
-    while i < n {
+    for i in 0..n {
         let b = EVENT_NUMBERS * i;
         let e = event_row(&es[b..], names);
         p = put_event(dst, p, e);
         names += e.len as usize;
-        i += 1;
     }
     p
 }
@@ -82,7 +80,7 @@ fn clause_row(l: &[u16], key: u16, v: &[u16]) -> ClauseRow
 {
     ClauseRow {
         kind: l[0],
-        key: key,
+        key,
         v1: v[0],
         v2: v[1],
         v3: v[2],
@@ -117,12 +115,10 @@ pub fn put_clauses(
     ensures { PutOf (clause_length * n) dst.old dst.new at (row_bytes clause_bytes (clause_rows cs.now numbers.now codes.now n)) result }
 {
     let mut p = at;
-    let mut clause = 0;
-    while clause < n {
+    for clause in 0..n {
         let b = CLAUSE_NUMBERS * clause;
         let d = CLAUSE_CODES * clause;
         p = put_clause(dst, p, clause_row(&cs[b..], numbers[clause], &codes[d..]));
-        clause += 1;
     }
     p
 }
@@ -167,10 +163,8 @@ pub fn put_words(
     ensures { PutOf (word_length * n) dst.old dst.new at (row_bytes word_bytes (word_rows starts.now orders.now ranks.now n)) result }
 {
     let mut p = at;
-    let mut i = 0;
-    while i < n {
+    for i in 0..n {
         p = put_word(dst, p, word_row(starts, orders, ranks, i));
-        i += 1;
     }
     p
 }

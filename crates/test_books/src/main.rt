@@ -45,12 +45,11 @@ fn lines(
     };
     let mut at = 0;
     while at < n {
-        let from = at;
-        let end = find(s, from, n, LF);
-        at = end + 1;
-        show::text(rt, &s[from..end])?;
-        l = line(rt, &s[from..end], l, text, table, book, image, row)?;
+        let end = find(s, at, n, LF);
+        show::text(rt, &s[at..end])?;
+        l = line(rt, &s[at..end], l, text, table, book, image, row)?;
         show::text(rt, b"\n")?;
+        at = end + 1;
     }
     Ok(())
 }

@@ -2,32 +2,42 @@
 // fingerprint of the bytes that it may change.
 #![tactic(auto)]
 
-use book_feed::{Feed, feed_bar};
+use book::OpenError;
+use book_feed::{FeedError, feed_bar};
 use book_feed_line::feed_line;
 use book_store::{fresh, restore, save};
-use position::{Decision, Description, Pos, Report};
+use position::{Description, Pos, Report};
 use std::io;
 use test_console::ask::field;
 use test_console::show::next;
 use test_console::{ask, show};
 use test_console_text::raw::ended;
 
+// What fresh, save and restore answer.
+fn stored(rt: &impl Print, r: Result<(), OpenError>, bytes: &[u8]) -> io::Result<()> {
+    let number = match r {
+        Ok(()) => 0,
+        Err(e) => e.number(),
+    };
+    ended(rt, number, bytes)
+}
+
 // `N`: makes the book fresh.
 fn made(rt: &impl Print, book: &mut [u8]) -> io::Result<()> {
     let r = fresh(book);
-    ended(rt, r.number(), book)
+    stored(rt, r, book)
 }
 
 // `S`: saves the book.
 fn saved(rt: &impl Print, table: &[u8], book: &[u8], image: &mut [u8]) -> io::Result<()> {
     let r = save(table, book, image);
-    ended(rt, r.number(), image)
+    stored(rt, r, image)
 }
 
 // `R`: restores the book.
 fn restored(rt: &impl Print, table: &[u8], book: &mut [u8], image: &[u8]) -> io::Result<()> {
     let r = restore(table, book, image);
-    ended(rt, r.number(), book)
+    stored(rt, r, book)
 }
 
 // -1, 0 or 1.
@@ -50,25 +60,26 @@ fn description(rt: &impl Print, d: Description) -> io::Result<()> {
 
 // What a feed says of an accepted bar.
 fn report(rt: &impl Print, r: Report) -> io::Result<()> {
-    let p = r.pos;
-    let d = r.decision;
-    position(rt, p)?;
+    position(rt, r.pos)?;
     next(rt)?;
     show::flag(rt, r.changed)?;
     next(rt)?;
-    match d {
-        Decision::Nothing => show::text(rt, b"-")?,
-        Decision::By(d) => description(rt, d)?,
+    match r.decision {
+        Some(d) => description(rt, d)?,
+        None => show::text(rt, b"-")?,
     }
     next(rt)
 }
 
 // What a feed answers.
-fn answered(rt: &impl Print, r: Feed, book: &[u8]) -> io::Result<()> {
-    if let Feed::Done(said) = r {
-        report(rt, said)?;
+fn answered(rt: &impl Print, r: Result<Report, FeedError>, book: &[u8]) -> io::Result<()> {
+    match r {
+        Ok(said) => {
+            report(rt, said)?;
+            ended(rt, 0, book)
+        }
+        Err(e) => ended(rt, e.number(), book),
     }
-    ended(rt, r.number(), book)
 }
 
 // `B|id|instant|offset|price`: feeds a bar with its signals.
@@ -96,11 +107,13 @@ fn fed_line(
     table: &[u8],
     book: &mut [u8],
 ) -> io::Result<()> {
-    if s.len() < 2 {
-        return Ok(());
+    match s.get(2..) {
+        Some(line) => {
+            let r = feed_line(table, book, line, signals);
+            answered(rt, r, book)
+        }
+        None => Ok(()),
     }
-    let r = feed_line(table, book, &s[2..], signals);
-    answered(rt, r, book)
 }
 
 // Runs a line of one of these letters; one of another does nothing.

@@ -11,10 +11,10 @@ use test_console_text::lent::touched;
 
 // Whether a line of that letter asks something.
 fn asks(tag: u8) -> bool {
-    match tag {
-        b'B' | b'C' | b'E' | b'F' | b'G' | b'H' | b'N' | b'R' | b'S' | b'V' | b'W' | b'X' => true,
-        _ => false,
-    }
+    matches!(
+        tag,
+        b'B' | b'C' | b'E' | b'F' | b'G' | b'H' | b'N' | b'R' | b'S' | b'V' | b'W' | b'X'
+    )
 }
 
 // Runs a line, and shows ` = ` and the answer where it asks something; one that adds to the text does nothing here.

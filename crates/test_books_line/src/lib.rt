@@ -20,20 +20,18 @@ pub struct Lent {
 // `L|T|B|I|R`: how many bytes are lent.
 fn lend(s: &[u8], l: Lent) -> Lent {
     Lent {
-        text: l.text,
         table: ask::place(field(s, 1)),
         book: ask::place(field(s, 2)),
         image: ask::place(field(s, 3)),
         row: ask::place(field(s, 4)),
+        ..l
     }
 }
 
 // The bytes of b that are lent, where so many are asked.
 fn cut(b: &mut [u8], asked: usize) -> &mut [u8] {
-    if b.len() < asked {
-        return b;
-    }
-    &mut b[0..asked]
+    let n = b.len().min(asked);
+    &mut b[..n]
 }
 
 // Runs a line.
@@ -47,10 +45,10 @@ pub fn line(
     image: &mut [u8],
     row: &mut [u8],
 ) -> io::Result<Lent> {
-    if s.len() == 0 {
+    let [tag, rest @ ..] = s else {
         return Ok(l);
-    }
-    let tag = s[0];
+    };
+    let tag = *tag;
     if tag == b'L' {
         return Ok(lend(s, l));
     }
@@ -66,10 +64,7 @@ pub fn line(
         cut(row, l.row),
     )?;
     Ok(Lent {
-        text: grown(tag, &s[1..], text, used),
-        table: l.table,
-        book: l.book,
-        image: l.image,
-        row: l.row,
+        text: grown(tag, rest, text, used),
+        ..l
     })
 }

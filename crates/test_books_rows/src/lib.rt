@@ -4,9 +4,9 @@
 use bar::LocalTime;
 use double::Side;
 use position::{HoldRow, PairRow};
-use row_holds::{HoldRead, hold_row};
-use row_names::{NameRead, event_name};
-use row_pairs::{PairRead, pair_row};
+use row_holds::hold_row;
+use row_names::event_name;
+use row_pairs::pair_row;
 use std::io;
 use test_console::ask::field;
 use test_console::show::next;
@@ -29,17 +29,10 @@ fn local(rt: &impl Print, t: LocalTime) -> io::Result<()> {
 
 // The values of a pair, and its texts.
 fn shown(rt: &impl Print, p: PairRow, row: &[u8]) -> io::Result<()> {
-    let x = p.side;
-    let a = p.opened;
-    let z = p.closed;
-    let y = p.bp;
-    let m = p.symbol;
-    let n = p.mark;
-    let q = p.sequence;
-    side(rt, x)?;
+    side(rt, p.side)?;
     next(rt)?;
-    local(rt, a)?;
-    local(rt, z)?;
+    local(rt, p.opened)?;
+    local(rt, p.closed)?;
     show::real(rt, p.from)?;
     next(rt)?;
     show::real(rt, p.to)?;
@@ -48,20 +41,14 @@ fn shown(rt: &impl Print, p: PairRow, row: &[u8]) -> io::Result<()> {
     next(rt)?;
     show::real(rt, p.days)?;
     next(rt)?;
-    show::yields(rt, y)?;
+    show::yields(rt, p.bp)?;
     next(rt)?;
-    texts(rt, row, m, n, q)
+    texts(rt, row, p.symbol, p.mark, p.sequence)
 }
 
 // Three texts, one behind another.
 fn texts(rt: &impl Print, row: &[u8], m: usize, n: usize, q: usize) -> io::Result<()> {
-    if row.len() < m {
-        return Ok(());
-    }
-    if row.len() - m < n {
-        return Ok(());
-    }
-    if row.len() - m - n < q {
+    if row.len() < m || row.len() - m < n || row.len() - m - n < q {
         return Ok(());
     }
     show::part(rt, row, 0, m)?;
@@ -74,46 +61,49 @@ fn texts(rt: &impl Print, row: &[u8], m: usize, n: usize, q: usize) -> io::Resul
 
 // `V|i`: a pair row.
 fn pair(rt: &impl Print, s: &[u8], table: &[u8], book: &[u8], row: &mut [u8]) -> io::Result<()> {
-    let r = pair_row(table, book, ask::signed(field(s, 1)), row);
-    if let PairRead::Row(p) = r {
-        shown(rt, p, row)?;
-        ended(rt, 0, row)?;
-        next(rt)?;
-        return show::number(rt, p.lots as u64);
+    match pair_row(table, book, ask::signed(field(s, 1)), row) {
+        Ok(p) => {
+            shown(rt, p, row)?;
+            ended(rt, 0, row)?;
+            next(rt)?;
+            show::number(rt, p.lots as u64)
+        }
+        Err(e) => ended(rt, e.number(), row),
     }
-    ended(rt, r.number(), row)
 }
 
 // The values of a hold.
 fn held(rt: &impl Print, o: HoldRow) -> io::Result<()> {
-    let t = o.local;
-    let y = o.n1b;
-    local(rt, t)?;
+    local(rt, o.local)?;
     show::signed32(rt, o.pos)?;
     next(rt)?;
     show::real(rt, o.price)?;
     next(rt)?;
-    show::yields(rt, y)?;
+    show::yields(rt, o.n1b)?;
     next(rt)
 }
 
 // `W|i`: a hold row.
 fn hold(rt: &impl Print, s: &[u8], table: &[u8], book: &[u8]) -> io::Result<()> {
-    let r = hold_row(table, book, ask::signed(field(s, 1)));
-    if let HoldRead::Row(o) = r {
-        held(rt, o)?;
+    match hold_row(table, book, ask::signed(field(s, 1))) {
+        Ok(o) => {
+            held(rt, o)?;
+            show::number(rt, 0)
+        }
+        Err(e) => show::number(rt, e.number() as u64),
     }
-    show::number(rt, r.number() as u64)
 }
 
 // `E|i`: an event's name.
 fn name(rt: &impl Print, s: &[u8], table: &[u8], row: &mut [u8]) -> io::Result<()> {
-    let r = event_name(table, ask::signed(field(s, 1)), row);
-    if let NameRead::Length(n) = r {
-        show::part(rt, row, 0, n)?;
-        next(rt)?;
+    match event_name(table, ask::signed(field(s, 1)), row) {
+        Ok(n) => {
+            show::part(rt, row, 0, n)?;
+            next(rt)?;
+            ended(rt, 0, row)
+        }
+        Err(e) => ended(rt, e.number(), row),
     }
-    ended(rt, r.number(), row)
 }
 
 // Runs a line of one of these letters; one of another does nothing.

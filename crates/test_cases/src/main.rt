@@ -10,7 +10,7 @@ use std::io;
 use test_console::input::read_full;
 use test_console::show;
 use text::{LF, find};
-use text_number::{Number, decimal};
+use text_number::decimal;
 
 // Room for the stored set.
 const SET_ROOM: usize = 2_000_000;
@@ -42,7 +42,7 @@ fn cases(rt: &impl Print, s: &[u8], out: &mut [u8]) -> io::Result<()>
         if end == n {
             return Ok(());
         }
-        let Number::Is(size) = decimal(s, at, end, 10) else {
+        let Some(size) = decimal(s, at, end, 10) else {
             return Ok(());
         };
         let from = end + 1;

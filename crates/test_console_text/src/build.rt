@@ -1,24 +1,23 @@
 // Building a text in a buffer of which `used` bytes are taken. Each function adds what has room, and answers how many are taken then.
 use test_console::ask;
 use test_console::ask::field;
-use text::{LF, PIPE, find};
+use text::{LF, PIPE};
 
 // One byte.
 fn byte(b: u8, out: &mut [u8], used: usize) -> usize {
     if used < out.len() {
         out[used] = b;
-        return used + 1;
+        used + 1
+    } else {
+        used
     }
-    used
 }
 
 // `.TEXT`: the bytes of s.
 fn bytes(s: &[u8], out: &mut [u8], used: usize) -> usize {
     let mut n = used;
-    let mut i = 0;
-    while i < s.len() {
-        n = byte(s[i], out, n);
-        i += 1;
+    for b in s {
+        n = byte(*b, out, n);
     }
     n
 }
@@ -42,10 +41,8 @@ fn mark(b: u8, number: u64, out: &mut [u8], used: usize) -> usize {
 // A numbered line.
 fn numbered(s: &[u8], number: u64, out: &mut [u8], used: usize) -> usize {
     let mut n = used;
-    let mut i = 0;
-    while i < s.len() {
-        n = mark(s[i], number, out, n);
-        i += 1;
+    for b in s {
+        n = mark(*b, number, out, n);
     }
     byte(LF, out, n)
 }
@@ -53,30 +50,25 @@ fn numbered(s: &[u8], number: u64, out: &mut [u8], used: usize) -> usize {
 // count lines, numbered from 0.
 fn many(s: &[u8], count: u64, out: &mut [u8], used: usize) -> usize {
     let mut n = used;
-    let mut i = 0;
-    while i < count {
+    for i in 0..count {
         n = numbered(s, i, out, n);
-        i += 1;
     }
     n
 }
 
 // `*N|TEXT`: N numbered lines.
 fn lines(s: &[u8], out: &mut [u8], used: usize) -> usize {
-    let bar = find(s, 0, s.len(), PIPE);
-    if bar == s.len() {
-        return used;
+    match s.iter().position(|b| *b == PIPE) {
+        Some(bar) => many(&s[bar + 1..], ask::number(&s[..bar]), out, used),
+        None => used,
     }
-    many(&s[bar + 1..], ask::number(field(s, 0)), out, used)
 }
 
 // The bytes of s, count times.
 fn copied(s: &[u8], count: u64, out: &mut [u8], used: usize) -> usize {
     let mut n = used;
-    let mut i = 0;
-    while i < count {
+    for _ in 0..count {
         n = bytes(s, out, n);
-        i += 1;
     }
     n
 }
@@ -90,10 +82,7 @@ fn copies(s: &[u8], out: &mut [u8], used: usize) -> usize {
 
 // The bytes that are taken.
 pub fn taken(text: &[u8], used: usize) -> &[u8] {
-    if text.len() < used {
-        return text;
-    }
-    &text[0..used]
+    text.get(..used).unwrap_or(text)
 }
 
 // What a line of that letter adds: nothing where it is another letter.

@@ -6,10 +6,7 @@ use test_console::ask::field;
 
 // The first byte of a field, or 0.
 fn letter(s: &[u8]) -> u8 {
-    if s.len() == 0 {
-        return 0;
-    }
-    s[0]
+    s.first().copied().unwrap_or(0)
 }
 
 // `P|X|at|BYTES`: bytes put in their place.
@@ -44,9 +41,11 @@ pub fn touched(
     image: &mut [u8],
 ) -> io::Result<()> {
     match tag {
-        b'H' => return dump(rt, s, table, book, image),
-        b'P' => put(s, table, book, image),
-        _ => {}
+        b'H' => dump(rt, s, table, book, image),
+        b'P' => {
+            put(s, table, book, image);
+            Ok(())
+        }
+        _ => Ok(()),
     }
-    Ok(())
 }

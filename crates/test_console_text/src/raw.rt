@@ -1,5 +1,4 @@
 // Bytes that are changed and shown, whatever they mean.
-use le::wide;
 use std::io;
 use test_console::{ask, show};
 
@@ -12,14 +11,10 @@ pub fn change(b: &mut [u8], at: usize, hex: &[u8]) {
 
 // The bytes in from..to in hexadecimal.
 pub fn dump(rt: &impl Print, b: &[u8], from: usize, to: usize) -> io::Result<()> {
-    if b.len() < to {
-        return Ok(());
-    }
-    let mut at = from;
-    while at < to {
-        let x = b[at];
-        print!(rt; "{x:02x}")?;
-        at += 1;
+    if let Some(bytes) = b.get(from..to) {
+        for x in bytes {
+            print!(rt; "{x:02x}")?;
+        }
     }
     Ok(())
 }
@@ -27,10 +22,8 @@ pub fn dump(rt: &impl Print, b: &[u8], from: usize, to: usize) -> io::Result<()>
 // A number that tells most bytes from others.
 fn fingerprint(b: &[u8]) -> u64 {
     let mut h: u64 = 0;
-    let mut i = 0;
-    while i < b.len() {
-        h = (h * 31 + wide(b[i]) as u64) % 4294967296;
-        i += 1;
+    for x in b {
+        h = (h * 31 + u64::from(*x)) % 4294967296;
     }
     h
 }

@@ -23,32 +23,28 @@ use text::{LF, find};
 
 // Whether a line of that letter asks something.
 fn asks(tag: u8) -> bool {
-    match tag {
-        b'C' | b'F' | b'H' | b'M' | b'T' => true,
-        _ => false,
-    }
+    matches!(tag, b'C' | b'F' | b'H' | b'M' | b'T')
 }
 
 // Whether a line of that letter empties the text.
 fn empties(tag: u8) -> bool {
-    match tag {
-        b'C' | b'M' => true,
-        _ => false,
-    }
+    matches!(tag, b'C' | b'M')
 }
 
 // Runs a line on the text and the table; one that adds to the text does nothing here.
 fn inspect(rt: &impl Print, tag: u8, s: &[u8], text: &[u8], table: &mut [u8]) -> io::Result<()> {
     match tag {
-        b'C' => return test_tables_asked::compiled(rt, text, table),
-        b'M' => return test_tables_asked::matched(rt, text, table),
-        b'F' => return test_tables_asked::changed(rt, s, table),
-        b'H' => return raw::dump(rt, table, ask::place(field(s, 1)), ask::place(field(s, 2))),
-        b'P' => raw::change(table, ask::place(field(s, 1)), field(s, 2)),
-        b'T' => return test_tables_asked::accepted(rt, table),
-        _ => {}
+        b'C' => test_tables_asked::compiled(rt, text, table),
+        b'M' => test_tables_asked::matched(rt, text, table),
+        b'F' => test_tables_asked::changed(rt, s, table),
+        b'H' => raw::dump(rt, table, ask::place(field(s, 1)), ask::place(field(s, 2))),
+        b'P' => {
+            raw::change(table, ask::place(field(s, 1)), field(s, 2));
+            Ok(())
+        }
+        b'T' => test_tables_asked::accepted(rt, table),
+        _ => Ok(()),
     }
-    Ok(())
 }
 
 // Runs a line, and answers how many bytes of the text are taken then.
@@ -59,10 +55,10 @@ fn run(
     used: usize,
     table: &mut [u8],
 ) -> io::Result<usize> {
-    if s.len() == 0 {
+    let [tag, rest @ ..] = s else {
         return Ok(used);
-    }
-    let tag = s[0];
+    };
+    let tag = *tag;
     if asks(tag) {
         show::text(rt, b" = ")?;
     }
@@ -70,7 +66,7 @@ fn run(
     if empties(tag) {
         return Ok(0);
     }
-    Ok(build::added(tag, &s[1..], text, used))
+    Ok(build::added(tag, rest, text, used))
 }
 
 // Runs a line and writes it back.

@@ -9,12 +9,10 @@ use text::{LF, find};
 
 // Answers the question in s by its first letter.
 fn answer(rt: &impl Print, s: &[u8]) -> io::Result<()> {
-    if s.len() < 2 {
+    let [tag, _, rest @ ..] = s else {
         return Ok(());
-    }
-    let tag = s[0];
-    let rest = &s[2..];
-    match tag {
+    };
+    match *tag {
         b'B' => test_vectors_numbers::bytes(rt, rest),
         b'C' => test_vectors_texts::operate_name(rt, rest),
         b'D' => test_vectors_numbers::decimal(rt, rest),
@@ -44,11 +42,9 @@ fn answer(rt: &impl Print, s: &[u8]) -> io::Result<()> {
 // Writes a line back, with its answer where it asks something.
 fn line(rt: &impl Print, s: &[u8]) -> io::Result<()> {
     show::text(rt, s)?;
-    if 0 < s.len() {
-        if s[0] != b'#' {
-            show::text(rt, b" = ")?;
-            answer(rt, s)?;
-        }
+    if !s.is_empty() && s[0] != b'#' {
+        show::text(rt, b" = ")?;
+        answer(rt, s)?;
     }
     show::text(rt, b"\n")
 }

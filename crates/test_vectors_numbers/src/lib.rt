@@ -7,7 +7,6 @@ use std::io;
 use test_console::ask::field;
 use test_console::show::next;
 use test_console::{ask, show};
-use text_number::Number;
 
 // Eight bytes written somewhere in a buffer.
 fn stored(v: u64) -> [u8; 16]
@@ -74,10 +73,10 @@ pub fn decimal(rt: &impl Print, s: &[u8]) -> io::Result<()> {
     if 18 < limit {
         return Ok(());
     }
-    match text_number::decimal(digits, 0, digits.len(), limit as usize) {
-        Number::Is(v) => show::number(rt, v),
-        Number::Bad => show::text(rt, b"-"),
-    }
+    show::maybe(
+        rt,
+        text_number::decimal(digits, 0, digits.len(), limit as usize),
+    )
 }
 
 // I|text: the i32 that it is.
@@ -133,10 +132,7 @@ pub fn stop(rt: &impl Print, s: &[u8]) -> io::Result<()> {
 
 // Z|field: the hundredths that it says as a sheet's stop.
 pub fn stop_field(rt: &impl Print, s: &[u8]) -> io::Result<()> {
-    match stop::read_stop(s, 0, s.len(), 100_000_000) {
-        Number::Is(h) => show::number(rt, h),
-        Number::Bad => show::text(rt, b"-"),
-    }
+    show::maybe(rt, stop::read_stop(s, 0, s.len(), 100_000_000))
 }
 
 // z|hundredths: the text and the double of a stop.

@@ -2,7 +2,6 @@
 #![tactic(auto)]
 
 use position_book_answer_alone::{operate_answer, signal_answer};
-use signal::ValueRead;
 use std::io;
 use test_console::show::next;
 use test_console::{ask, show};
@@ -42,10 +41,7 @@ pub fn operate_bytes(rt: &impl Print, s: &[u8]) -> io::Result<()> {
 // Shows n bytes of s at `at` behind a bar, and answers the place behind them.
 fn piece(rt: &impl Print, s: &[u8], at: usize, n: usize) -> io::Result<usize> {
     next(rt)?;
-    if s.len() < at {
-        return Ok(at);
-    }
-    if s.len() - at < n {
+    if s.len() < at || s.len() - at < n {
         return Ok(at);
     }
     show::part(rt, s, at, at + n)?;
@@ -75,16 +71,15 @@ pub fn signal_bytes(rt: &impl Print, s: &[u8]) -> io::Result<()> {
 // V|text: a bar's value: its three parts and its score.
 pub fn value(rt: &impl Print, s: &[u8]) -> io::Result<()> {
     match signal::read_value(s) {
-        ValueRead::Counts(v) => {
-            let score = v.score;
+        Some(v) => {
             show::part(rt, s, 0, v.v1)?;
             next(rt)?;
             show::part(rt, s, v.v1 + 1, v.v2)?;
             next(rt)?;
             show::part(rt, s, v.v2 + 1, v.v3)?;
             next(rt)?;
-            show::int(rt, score)
+            show::signed32(rt, v.score)
         }
-        ValueRead::Absent => show::text(rt, b"-"),
+        None => show::text(rt, b"-"),
     }
 }

@@ -1,6 +1,9 @@
 -- Laws of answers: the first refusal counts. Assumes nothing.
 use mathlib.Core.Bool.{Bool, true, false, false≢true}
-use mathlib.Core.Option.{Option, none, some}
+use Rattle.std.specs.Prelude.{Option, None, Some, Result, Err}
+use Rattle.std.specs.Option.{ok_or}
+use Rattle.std.specs.Result.{IsErrAnd}
+use Rattle.std.proofs.lemmas.Result.{err_from_is_err_and}
 use mathlib.Core.Path.{◌≡◌, refl, ap}
 use Prim.Native.Nat.{ℕ}
 use Rattle.text.specs.Answer.{Answer, Refused, Got, ◌>>=◌, must, given}
@@ -24,6 +27,14 @@ must_got n false k y e = absurd (false≢true (cc))
 pub got_same : {X : Type 0} (x y : X) → Got x ≡ Got y → x ≡ y
 got_same x y e = cc
 
-pub given_got : {X : Type 0} (n : ℕ) (o : Option X) (x : X) → given n o ≡ Got x → o ≡ some x
-given_got n none x e = absurd (false≢true (cc))
-given_got n (some y) x e = ap some (got_same y x e)
+pub given_got : {X : Type 0} (n : ℕ) (o : Option X) (x : X) → given n o ≡ Got x → o ≡ Some x
+given_got n None x e = absurd (false≢true (cc))
+given_got n (Some y) x e = ap Some (got_same y x e)
+
+-- ---- where nothing was had, `ok_or(e)?` answers e
+
+pub none_passed : {X Y E : Type 0} (o : Option X) (d e : E) (r : Result Y E) → Err d ≡ ok_or o e → IsErrAnd r (λ y. y ≡ d) → (o ≡ None) × (r ≡ Err e)
+none_passed (Some x) d e r h q = absurd (false≢true cc)
+none_passed None d e r h q =
+    let p = err_from_is_err_and r q in
+    (refl, cc (p.1, p.2))

@@ -1,7 +1,7 @@
 -- Worked examples of texts and numbers, computed from the definitions. Assumes nothing.
 use mathlib.Core.Path.{◌≡◌, refl}
 use mathlib.Core.List.{[], ◌∷◌}
-use mathlib.Core.Option.{none, some}
+use Rattle.std.specs.Prelude.{None, Some}
 use lib.IntN.{pos, negsuc}
 use Rattle.text.specs.Literal.{encoded, bytes}
 use Rattle.text.specs.Text.{onto, split}
@@ -9,57 +9,57 @@ use Rattle.text.specs.Number.{digits_behind, natural, digits_to, i32_of, decimal
 
 -- ---- an i32
 
-with_plus : i32_of (bytes "+007") ≡ some (pos 7)
+with_plus : i32_of (bytes "+007") ≡ Some (pos 7)
 unfolding i32_of natural digits_behind bytes encoded
 with_plus = refl
 
-minus_nothing : i32_of (bytes "-0") ≡ some (pos 0)
+minus_nothing : i32_of (bytes "-0") ≡ Some (pos 0)
 unfolding i32_of natural digits_behind bytes encoded
 minus_nothing = refl
 
-highest : i32_of (bytes "2147483647") ≡ some (pos 2147483647)
+highest : i32_of (bytes "2147483647") ≡ Some (pos 2147483647)
 unfolding i32_of natural digits_behind bytes encoded
 highest = refl
 
-too_high : i32_of (bytes "2147483648") ≡ none
+too_high : i32_of (bytes "2147483648") ≡ None
 unfolding i32_of natural digits_behind bytes encoded
 too_high = refl
 
-lowest : i32_of (bytes "-2147483648") ≡ some (negsuc 2147483647)
+lowest : i32_of (bytes "-2147483648") ≡ Some (negsuc 2147483647)
 unfolding i32_of natural digits_behind bytes encoded
 lowest = refl
 
-too_low : i32_of (bytes "-2147483649") ≡ none
+too_low : i32_of (bytes "-2147483649") ≡ None
 unfolding i32_of natural digits_behind bytes encoded
 too_low = refl
 
-nothing : i32_of (bytes "") ≡ none
+nothing : i32_of (bytes "") ≡ None
 unfolding i32_of natural digits_behind bytes encoded
 nothing = refl
 
-sign_only : i32_of (bytes "+") ≡ none
+sign_only : i32_of (bytes "+") ≡ None
 unfolding i32_of natural digits_behind bytes encoded
 sign_only = refl
 
-many-zeros : i32_of (bytes "00000000000000000012") ≡ some (pos 12)
+many-zeros : i32_of (bytes "00000000000000000012") ≡ Some (pos 12)
 unfolding i32_of natural digits_behind bytes encoded
 many-zeros = refl
 
 -- ---- 1 to n digits
 
-ten_nines : digits_to 10 (bytes "9999999999") ≡ some 9999999999
+ten_nines : digits_to 10 (bytes "9999999999") ≡ Some 9999999999
 unfolding digits_to natural digits_behind bytes encoded
 ten_nines = refl
 
-eleven : digits_to 10 (bytes "00000000001") ≡ none
+eleven : digits_to 10 (bytes "00000000001") ≡ None
 unfolding digits_to natural digits_behind bytes encoded
 eleven = refl
 
-no_digits : digits_to 10 (bytes "") ≡ none
+no_digits : digits_to 10 (bytes "") ≡ None
 unfolding digits_to natural digits_behind bytes encoded
 no_digits = refl
 
-no_digit : digits_to 10 (bytes "1x") ≡ none
+no_digit : digits_to 10 (bytes "1x") ≡ None
 unfolding digits_to natural digits_behind bytes encoded
 no_digit = refl
 

@@ -12,6 +12,5 @@ pub mod Cut
 pub mod Joined
 pub mod Lines
 pub mod Put
-pub mod Zeros
 mod Examples
 pub mod Opened

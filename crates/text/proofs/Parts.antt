@@ -4,36 +4,23 @@ use mathlib.Core.Logic.{◌≢◌}
 use mathlib.Core.Bool.{Bool, true, false, cond, ◌||◌}
 use mathlib.Core.List.{List, [], ◌∷◌}
 use Prim.Native.Nat.{ℕ, suc, ◌+◌, ◌-◌, ◌≤◌, ◌<◌}
-use native.Mathlib.Decide.{dec_le}
 use native.Mathlib.Omega.{arith}
-use borrow.Author.Tests.{eq-eqb, ne_eqb, lt-ltb, le-ltb}
-use lib.Dec.{eqb, ltb}
+use borrow.Author.Tests.{eq-eqb, ne_eqb}
+use lib.Dec.{eqb}
 use lib.ListN.{length, get_or, take, drop}
 use lib.Seq.{slice, length-slice, drop-drop}
+use Rattle.std.specs.List.{list_any}
 use Rattle.text.specs.Text.{has, onto, split}
 use Rattle.text.specs.Read.{Part, index_of, index_after, FirstAt}
-use Rattle.text.proofs.Laws.{part_cons, part_nil, part_end, part-take}
+use Rattle.text.proofs.Laws.{part_cons, part_nil, part-take}
 
 -- ---- the first b
 
-ltb_suc : (m n : ℕ) → ltb (suc m) (suc n) ≡ ltb m n
-ltb_suc m n =
-    elim (dec_le (suc m) n) [ yes h ↦ lt-ltb (suc m) (suc n) (omega arith) ∙ sym (lt-ltb m n h) | no h ↦ le-ltb (suc m) (suc n) (omega arith) ∙ sym (le-ltb m n (omega arith)) ]
-
--- b stands in the text if its first place is not the end
-pub has_index : (b : ℕ) (l : List ℕ) → ltb (index_of b l) (length l) ≡ has b l
-unfolding has index_of index_after
-has_index b [] = refl
-has_index b (x ∷ t) = go (eqb x b) (has_index b t)
-  where
-    go : (e : Bool) → ltb (index_of b t) (length t) ≡ has b t → ltb (index_after e (index_of b t)) (suc (length t)) ≡ (e || has b t)
-    go true h = lt-ltb 0 (suc (length t)) (omega arith)
-    go false h = ltb_suc (index_of b t) (length t) ∙ h
-
-pub has-place : {s : List ℕ} {b r : ℕ} → FirstAt s 0 (length s) b r → ltb r (length s) ≡ has b s
-has-place {s} {b} {r} f =
-    let e : r ≡ index_of b s = f.at ∙ rw (part_end 0 s) (omega arith) in
-    rw e (has_index b s)
+-- b stands in the text if some element is b
+pub has-any : (b : ℕ) (l : List ℕ) → list_any (λ y. eqb y b) l ≡ has b l
+unfolding has
+has-any b [] = refl
+has-any b (x ∷ t) = ap (λ e. eqb x b || e) (has-any b t)
 
 -- no separator: one part
 split_miss : (b : ℕ) (l : List ℕ) → index_of b l ≡ length l → split b l ≡ l ∷ []
@@ -97,9 +84,6 @@ pub record Counting (s : List ℕ) (from to b n i : ℕ) : Type 0 where
   pub begun : from ≤ i
   pub few : n ≤ i - from + 1
   pub count : n + length (split b (slice i to s)) ≡ length (split b (slice from to s)) + 1
-
-pub counting_first : {s : List ℕ} {from to : ℕ} (b : ℕ) → Part s from to → Counting s from to b 1 from
-counting_first b p = record { left = p; begun = omega arith; few = omega arith; count = omega arith }
 
 pub onto-count : (x : ℕ) (ps : List (List ℕ)) → 1 ≤ length ps → length (onto x ps) ≡ length ps
 unfolding onto

@@ -1,12 +1,12 @@
 -- Laws of `Put`: texts written one behind another, and a part that is copied. Assumes nothing.
-use mathlib.Core.Path.{◌≡◌, ◌∙◌, refl, sym, ap, ap₂}
-use mathlib.Core.List.{List, [], ◌∷◌, ◌++◌, append_assoc, append-nil}
+use mathlib.Core.Path.{◌≡◌, ◌∙◌, refl, ap, ap₂}
+use mathlib.Core.List.{List, [], ◌∷◌, ◌++◌, append_assoc}
 use Prim.Native.Nat.{ℕ, suc, ◌+◌, ◌-◌, ◌≤◌, ◌<◌}
 use native.Mathlib.Omega.{arith}
-use lib.ListN.{length, take, drop, set, get_or, length-append, length-drop, drop_of_length-le}
-use lib.Seq.{slice, length-slice, length-take-le, take-length, drop-drop, sets-eq, paste-zero, take-suc, set_at}
+use lib.ListN.{length, take, drop, set, get_or, length-append}
+use lib.Seq.{slice, length-slice, length-take-le, take-length, sets-eq, paste-zero, take-suc, set_at}
 use Rattle.le.specs.Le.{patch}
-use Rattle.le.proofs.Laws.{length-patch, patch-patch}
+use Rattle.le.proofs.Laws.{length-patch, patch-patch, copied}
 use Rattle.text.specs.Read.{Part, Put}
 use Rattle.text.proofs.Laws.{part-size}
 
@@ -52,23 +52,13 @@ put-put {l} {m} {n} {t} {u} {at} a b = record {
 pub put_copy : {src : List ℕ} {from to : ℕ} → Part src from to → (d q : List ℕ) (at : ℕ) → at + (to - from) ≤ length d
     → q ≡ take (to - from) (drop from src)
     → Put d (take at d ++ (q ++ drop (at + (to - from) - at) (drop at d))) at (slice from to src) (at + (to - from))
-unfolding patch
-put_copy {src} {from} {to} p d q at h e = rw size at (put-patch {l = d} {t = x} {at = at} written (omega (arith, size)))
+put_copy {src} {from} {to} p d q at h e = rw size at (put-patch written (omega (arith, size)))
   where
-    x : List ℕ
-    x = slice from to src
-
-    size : length x ≡ to - from
+    size : length (slice from to src) ≡ to - from
     size = length-slice from to src p.within
 
-    n : at + (to - from) - at ≡ length x
-    n = omega (arith, size)
-
-    copied : q ≡ x
-    copied = e ∙ part-size from to src p.order
-
-    written : take at d ++ (q ++ drop (at + (to - from) - at) (drop at d)) ≡ patch d at x
-    written = rw (copied, n, drop-drop (length x) at d) (sym (append_assoc (take at d) x (drop (at + length x) d)))
+    written : take at d ++ (q ++ drop (at + (to - from) - at) (drop at d)) ≡ patch d at (slice from to src)
+    written = copied d q (slice from to src) at (to - from) (e ∙ part-size from to src p.order) size
 
 -- the whole of a text
 pub put_whole : (x : List ℕ) {l m : List ℕ} {at r : ℕ} → Put l m at (slice 0 (length x) x) r → Put l m at x r

@@ -2,7 +2,7 @@
 use Prim.Native.Nat.{ℕ, zero, suc}
 use mathlib.Core.Bool.{Bool, true, false}
 use mathlib.Core.List.{List, [], ◌∷◌}
-use mathlib.Core.Option.{Option, none, some}
+use Rattle.std.specs.Prelude.{Option, None, Some}
 use lib.Dec.{T, ltb}
 use Rattle.text.specs.Answer.{Answer, Refused, Got, ◌>>=◌, must, given}
 use Rattle.text.specs.Text.{split, each_line, pipe}
@@ -23,8 +23,8 @@ must_gives (suc n) false h = refuses
 
 pub given_gives : {X : Type 0} (n : ℕ) (o : Option X) → T (ltb 0 n) → Gives Any (given n o)
 given_gives zero o h = absurd h
-given_gives (suc n) none h = refuses
-given_gives (suc n) (some x) h = gives tt
+given_gives (suc n) None h = refuses
+given_gives (suc n) (Some x) h = gives tt
 
 pub got_gives : {X : Type 0} (x : X) → Gives Any (Got x)
 got_gives x = gives tt

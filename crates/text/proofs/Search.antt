@@ -1,15 +1,13 @@
 -- What a search keeps: no b stands before the place that it has come to. Assumes nothing.
-use mathlib.Core.Path.{◌≡◌, ◌∙◌, refl, sym, ap}
+use mathlib.Core.Path.{◌≡◌}
 use mathlib.Core.Logic.{◌≢◌}
-use mathlib.Core.Bool.{Bool, true, false}
-use mathlib.Core.List.{List, [], ◌∷◌}
+use mathlib.Core.List.{List}
 use Prim.Native.Nat.{ℕ, suc, ◌+◌, ◌≤◌, ◌<◌}
 use native.Mathlib.Omega.{arith}
 use borrow.Author.Tests.{eq-eqb, ne_eqb}
-use lib.Dec.{eqb}
 use lib.ListN.{length, get_or}
 use lib.Seq.{slice}
-use Rattle.text.specs.Read.{Part, index_of, index_after, FirstAt}
+use Rattle.text.specs.Read.{index_of, index_after, FirstAt}
 use Rattle.text.proofs.Laws.{part_cons, part_nil}
 
 -- the search of b in from..to has come to i
@@ -18,9 +16,6 @@ pub record Finding (s : List ℕ) (from to b i : ℕ) : Type 0 where
   pub high : i ≤ to
   pub within : to ≤ length s
   pub same : i + index_of b (slice i to s) ≡ from + index_of b (slice from to s)
-
-pub finding_first : {s : List ℕ} {from to : ℕ} (b : ℕ) → Part s from to → Finding s from to b from
-finding_first b p = record { low = omega arith; high = p.order; within = p.within; same = refl }
 
 module _ {s : List ℕ} {from to b i : ℕ} (f : Finding s from to b i) where
   -- b stands here

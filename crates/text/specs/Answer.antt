@@ -1,6 +1,5 @@
 -- A reading that is refused with a number or gives a value. Assumes nothing.
-use Rattle.std.specs.Prelude.{ℕ, Bool, true, false}
-use Rattle.std.proofs.Math.Option.{Option, none, some}
+use Rattle.std.specs.Prelude.{ℕ, Bool, true, false, Option, None, Some}
 
 pub data Answer (X : Type 0) : Type 0 where
   Refused : ℕ → Answer X
@@ -19,8 +18,8 @@ must n false = Refused n
 
 -- refused with n where there is nothing
 abbrev pub given : {X : Type 0} → ℕ → Option X → Answer X
-given n none = Refused n
-given n (some x) = Got x
+given n None = Refused n
+given n (Some x) = Got x
 
 -- the number to return: 0 is done
 abbrev pub number : {X : Type 0} → Answer X → ℕ

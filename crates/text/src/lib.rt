@@ -9,23 +9,21 @@ ghost use Rattle.text.specs.Text.{same, has, split};
 ghost use Rattle.text.specs.Read.{Part, FirstAt, Put};
 
 // What ends a line, and what stands between fields and between parts.
-pub const LF: u8 = 10;
+pub const LF: u8 = b'\n';
 
-pub const PIPE: u8 = 124;
+pub const PIPE: u8 = b'|';
 
-pub const UNDERSCORE: u8 = 95;
+pub const UNDERSCORE: u8 = b'_';
 
 // The place of the first b of s in from..to, or to where there is none: the end of a line, a field or a part.
 pub fn find(s: &[u8], from: usize, to: usize, b: u8) -> usize
     requires { Part s.now from to }
     ensures { FirstAt s.now from to b result }
 {
-    let mut i = from;
-    while i < to {
+    for i in from..to {
         if s[i] == b {
             return i;
         }
-        i += 1;
     }
     to
 }
@@ -36,12 +34,10 @@ pub fn count_parts(s: &[u8], from: usize, to: usize, b: u8) -> usize
     ensures { result ≡ length (split b (slice from to s.now)) }
 {
     let mut n = 1;
-    let mut i = from;
-    while i < to {
+    for i in from..to {
         if s[i] == b {
             n += 1;
         }
-        i += 1;
     }
     n
 }
@@ -50,8 +46,7 @@ pub fn count_parts(s: &[u8], from: usize, to: usize, b: u8) -> usize
 pub fn contains(s: &[u8], b: u8) -> bool
     ensures { result ≡ has b s.now }
 {
-    let n = s.len();
-    find(s, 0, n, b) < n
+    s.contains(&b)
 }
 
 // Whether a in a0..a1 and b in b0..b1 are the same bytes.
@@ -60,30 +55,14 @@ pub fn part_eq(a: &[u8], a0: usize, a1: usize, b: &[u8], b0: usize, b1: usize) -
     requires part_2 { Part b.now b0 b1 }
     ensures { result ≡ same (slice a0 a1 a.now) (slice b0 b1 b.now) }
 {
-    if a1 - a0 != b1 - b0 {
-        return false;
-    }
-    let mut i = a0;
-    let mut j = b0;
-    while i < a1 {
-        if a[i] != b[j] {
-            return false;
-        }
-        i += 1;
-        j += 1;
-    }
-    true
+    &a[a0..a1] == &b[b0..b1]
 }
 
 // Fills dst with zeros.
 pub fn clear(dst: &mut [u8])
     ensures { dst.new ≡ replicate (length dst.old) 0 }
 {
-    let mut i = 0;
-    while i < dst.len() {
-        dst[i] = 0;
-        i += 1;
-    }
+    dst.fill(0);
 }
 
 // Writes the byte b to dst at `at`, and answers the place behind it.

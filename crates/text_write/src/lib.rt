@@ -12,15 +12,15 @@ pub fn put_decimal(dst: &mut [u8], at: usize, v: u64) -> usize
     requires { at + 20 ≤ length dst.old }
     ensures { Put dst.old dst.new at (decimal_of v) result }
 {
-    let mut digits = [48u8; 20];
+    let mut digits = [b'0'; 20];
     let mut p: usize = 19;
     let mut w = v;
     while 10 <= w {
-        digits[p] = 48 + (w % 10) as u8;
-        w = w / 10;
-        p = p - 1;
+        digits[p] = b'0' + (w % 10) as u8;
+        w /= 10;
+        p -= 1;
     }
-    digits[p] = 48 + w as u8;
+    digits[p] = b'0' + w as u8;
     put_part(dst, at, &digits, p, 20)
 }
 
@@ -30,9 +30,10 @@ fn hex_digit(d: u64) -> u8
     ensures { result ≡ hex_digit d }
 {
     if d < 10 {
-        return 48 + d as u8;
+        b'0' + d as u8
+    } else {
+        b'a' + (d - 10) as u8
     }
-    87 + d as u8
 }
 
 // Writes v as 16 hexadecimal digits in lower case to dst at `at`, and answers the place behind them.
@@ -40,12 +41,10 @@ pub fn put_hex(dst: &mut [u8], at: usize, v: u64) -> usize
     requires { at + 16 ≤ length dst.old }
     ensures { Put dst.old dst.new at (hex_of 16 v) result }
 {
-    let mut k: usize = 16;
     let mut w = v;
-    while 0 < k {
-        k = k - 1;
+    for k in (0..16).rev() {
         dst[at + k] = hex_digit(w % 16);
-        w = w / 16;
+        w /= 16;
     }
     at + 16
 }

@@ -2,9 +2,9 @@
 use mathlib.Core.Path.{◌≡◌, ◌∙◌, refl, sym, ap}
 use mathlib.Core.Logic.{◌≢◌}
 use mathlib.Core.List.{List, [], ◌∷◌}
-use mathlib.Core.Bool.{Bool, true, false, cond, and-false}
-use mathlib.Core.Option.{Option, none, some}
-use Prim.Native.Nat.{ℕ, suc, ◌+◌, ◌-◌, ◌≤◌, ◌<◌}
+use mathlib.Core.Bool.{Bool, true, false, and-false}
+use Rattle.std.specs.Prelude.{Option, None, Some}
+use Prim.Native.Nat.{ℕ, suc, ◌+◌, ◌≤◌, ◌<◌}
 use native.Mathlib.Decide.{dec_le}
 use native.Mathlib.Numerals.{add-one}
 use native.Mathlib.Omega.{arith}
@@ -14,8 +14,6 @@ use lib.Seq.{drop-cons}
 use lib.ListN.{length, get_or, drop, replicate, drop_of_length-le}
 use Rattle.utf8.specs.Utf8.{Range, to, inside, utf8_tail, after, step, right, utf8}
 use Rattle.utf8.specs.Read.{Read, Passed, CharAt}
-use Rattle.utf8.specs.declared.Char.{Char}
-use Rattle.utf8.specs.declared.Char.TheVariants.{Next, Wrong}
 
 -- ---- a byte and a range
 
@@ -31,64 +29,22 @@ among lo hi b h k = rw (le-leb lo b h, le-leb b hi k)
 -- ---- the rows of `after`
 
 module _ (b : ℕ) where
-  pub after-ascii : b ≤ 0x7f → after b ≡ some []
+  pub after-ascii : b ≤ 0x7f → after b ≡ Some []
   unfolding after
   after-ascii h = rw (among 0x00 0x7f b (omega arith) h)
 
-  pub after_two : 0xc2 ≤ b → b ≤ 0xdf → after b ≡ some (utf8_tail ∷ [])
+  pub after_three : 0xe0 < b → b ≢ 0xed → b ≤ 0xef → after b ≡ Some (utf8_tail ∷ utf8_tail ∷ [])
   unfolding after
-  after_two h k = rw (above 0x00 0x7f b (omega arith), among 0xc2 0xdf b h k)
-
-  past_two : 0xe0 < b → after b ≡
-      cond (inside (to 0xe1 0xec) b) (some (utf8_tail ∷ utf8_tail ∷ []))
-      (cond (inside (to 0xed 0xed) b) (some (to 0x80 0x9f ∷ utf8_tail ∷ []))
-      (cond (inside (to 0xee 0xef) b) (some (utf8_tail ∷ utf8_tail ∷ []))
-      (cond (inside (to 0xf0 0xf0) b) (some (to 0x90 0xbf ∷ utf8_tail ∷ utf8_tail ∷ []))
-      (cond (inside (to 0xf1 0xf3) b) (some (utf8_tail ∷ utf8_tail ∷ utf8_tail ∷ []))
-      (cond (inside (to 0xf4 0xf4) b) (some (to 0x80 0x8f ∷ utf8_tail ∷ utf8_tail ∷ []))
-      none)))))
-  unfolding after
-  past_two h = rw (above 0x00 0x7f b (omega arith), above 0xc2 0xdf b (omega arith), above 0xe0 0xe0 b h)
-
-  pub after_three : 0xe0 < b → b ≢ 0xed → b ≤ 0xef → after b ≡ some (utf8_tail ∷ utf8_tail ∷ [])
   after_three h e k =
-      past_two h
-      ∙ elim (dec_le b 0xec) [
+      rw (above 0x00 0x7f b (omega arith), above 0xc2 0xdf b (omega arith), above 0xe0 0xe0 b h)
+      (elim (dec_le b 0xec) [
         | yes l ↦ rw (among 0xe1 0xec b h l)
         | no l ↦ rw (above 0xe1 0xec b (omega arith), above 0xed 0xed b (omega arith), among 0xee 0xef b (omega arith) k)
-      ]
-
-  past_three : 0xf0 < b → after b ≡ cond (inside (to 0xf1 0xf3) b) (some (utf8_tail ∷ utf8_tail ∷ utf8_tail ∷ []))
-      (cond (inside (to 0xf4 0xf4) b) (some (to 0x80 0x8f ∷ utf8_tail ∷ utf8_tail ∷ []))
-      none)
-  past_three h =
-      past_two (omega arith)
-      ∙ rw (above 0xe1 0xec b (omega arith), above 0xed 0xed b (omega arith), above 0xee 0xef b (omega arith), above 0xf0 0xf0 b h)
-
-  pub after_four : 0xf0 < b → b ≤ 0xf3 → after b ≡ some (utf8_tail ∷ utf8_tail ∷ utf8_tail ∷ [])
-  after_four h k = past_three h ∙ rw (among 0xf1 0xf3 b h k)
-
-  pub after_over : 0xf4 < b → after b ≡ none
-  after_over h = past_three (omega arith) ∙ rw (above 0xf1 0xf3 b (omega arith), above 0xf4 0xf4 b h)
-
-  pub after_under : 0x7f < b → b < 0xc2 → after b ≡ none
-  unfolding after
-  after_under h k =
-      rw (
-        above 0x00 0x7f b h,
-        below 0xc2 0xdf b k,
-        below 0xe0 0xe0 b (omega arith),
-        below 0xe1 0xec b (omega arith),
-        below 0xed 0xed b (omega arith),
-        below 0xee 0xef b (omega arith),
-        below 0xf0 0xf0 b (omega arith),
-        below 0xf1 0xf3 b (omega arith),
-        below 0xf4 0xf4 b (omega arith),
-      )
+      ])
 
 -- ---- one byte more
 
-pub right-none : (l : List ℕ) → right none l ≡ false
+pub right-none : (l : List ℕ) → right None l ≡ false
 unfolding right step
 right-none [] = refl
 right-none (b ∷ l) = right-none l
@@ -99,7 +55,7 @@ read-start s st i h = record { onward = omega arith; within = h; same = refl }
 
 pub passed_start : (s : List ℕ) (i : ℕ) → i ≤ length s → Passed s i (utf8 (drop i s)) i
 unfolding utf8
-passed_start s i h = read-start s (some []) i h
+passed_start s i h = read-start s (Some []) i h
 
 module _ {s : List ℕ} {i : ℕ} {whole : Bool} {st : Option (List Range)} {j : ℕ} (r : Read s i whole st j) where
   -- a byte takes the state one step on
@@ -117,7 +73,7 @@ module _ {s : List ℕ} {i : ℕ} {whole : Bool} {st : Option (List Range)} {j :
   read-on q = record { onward = omega arith; within = q.within; same = r.same ∙ q.same }
 
 -- where no character goes on so, the whole is wrong
-pub read_none : {s : List ℕ} {i : ℕ} {whole : Bool} {j : ℕ} → Read s i whole none j → whole ≡ false
+pub read_none : {s : List ℕ} {i : ℕ} {whole : Bool} {j : ℕ} → Read s i whole None j → whole ≡ false
 read_none {s} {j = j} r = r.same ∙ right-none (drop j s)
 
 -- the first byte of a character
@@ -129,7 +85,7 @@ read_first s i next h e =
 
 -- ---- a byte that must be in lo..hi
 
-module _ {s : List ℕ} {i : ℕ} {whole : Bool} {lo hi : ℕ} {xs : List Range} {j : ℕ} (r : Read s i whole (some (to lo hi ∷ xs)) j) where
+module _ {s : List ℕ} {i : ℕ} {whole : Bool} {lo hi : ℕ} {xs : List Range} {j : ℕ} (r : Read s i whole (Some (to lo hi ∷ xs)) j) where
   -- a text that is cut within a character is wrong
   pub range_cut : length s ≤ j → whole ≡ false
   unfolding right
@@ -138,32 +94,25 @@ module _ {s : List ℕ} {i : ℕ} {whole : Bool} {lo hi : ℕ} {xs : List Range}
   module _ (h : j < length s) where
     pub range_below : get_or s j 0 < lo → whole ≡ false
     unfolding step
-    range_below k = read_none (read_byte r none h (rw (below lo hi (get_or s j 0) k)))
+    range_below k = read_none (read_byte r None h (rw (below lo hi (get_or s j 0) k)))
 
     pub range_above : hi < get_or s j 0 → whole ≡ false
     unfolding step
-    range_above k = read_none (read_byte r none h (rw (above lo hi (get_or s j 0) k)))
+    range_above k = read_none (read_byte r None h (rw (above lo hi (get_or s j 0) k)))
 
-    pub range_among : lo ≤ get_or s j 0 → get_or s j 0 ≤ hi → Read s i whole (some xs) (j + 1)
+    pub range_among : lo ≤ get_or s j 0 → get_or s j 0 ≤ hi → Read s i whole (Some xs) (j + 1)
     unfolding step
-    range_among k l = read_byte r (some xs) h (rw (among lo hi (get_or s j 0) k l))
+    range_among k l = read_byte r (Some xs) h (rw (among lo hi (get_or s j 0) k l))
 
-module _ {s : List ℕ} {i : ℕ} {whole : Bool} {k j : ℕ} (r : Read s i whole (some (replicate k utf8_tail)) j) where
+module _ {s : List ℕ} {i : ℕ} {whole : Bool} {k j : ℕ} (r : Read s i whole (Some (replicate k utf8_tail)) j) where
   -- where tails are to come, the first is one
-  pub tails_some : 0 < k → Read s i whole (some (utf8_tail ∷ replicate (k - 1) utf8_tail)) j
-  tails_some h =
-      let e : k ≡ suc (k - 1) = omega arith in
-      rw e at r
-
-  pub tails_none : k ≤ 0 → Passed s i whole j
-  tails_none h =
-      let e : k ≡ 0 = omega arith in
-      rw e at r
+  pub tails_some : (n : ℕ) → k ≡ suc n → Read s i whole (Some (utf8_tail ∷ replicate n utf8_tail)) j
+  tails_some n e = rw e at r
 
 -- a character that was taken from j on was taken from i on
-pub char_on : {s : List ℕ} {i : ℕ} {whole : Bool} {st : Option (List Range)} {j : ℕ} → Read s i whole st j → (c : Char) → CharAt s j (right st (drop j s)) c → CharAt s i whole c
-char_on r (Next k) q = read-on r q
-char_on r Wrong q = r.same ∙ q
+pub char_on : {s : List ℕ} {i : ℕ} {whole : Bool} {st : Option (List Range)} {j : ℕ} → Read s i whole st j → (c : Option ℕ) → CharAt s j (right st (drop j s)) c → CharAt s i whole c
+char_on r (Some k) q = read-on r q
+char_on r None q = r.same ∙ q
 
 -- ---- whole characters
 
@@ -174,7 +123,7 @@ module _ {s : List ℕ} {i : ℕ} {whole : Bool} {j : ℕ} (r : Passed s i whole
 
   pub passed_ascii : j < length s → get_or s j 0 ≤ 0x7f → Passed s i whole (j + 1)
   unfolding step
-  passed_ascii h k = read_byte r (some []) h (after-ascii (get_or s j 0) k)
+  passed_ascii h k = read_byte r (Some []) h (after-ascii (get_or s j 0) k)
 
   -- behind a whole character
   pub passed_char : {k : ℕ} → Passed s (j + 1) (utf8 (drop j s)) k → Passed s i whole k

@@ -1,11 +1,8 @@
 -- The invariant of `ascii_block`. Assumes nothing.
 use mathlib.Core.Path.{◌≡◌}
 use mathlib.Core.List.{List}
-use mathlib.Core.Bool.{true}
 use Prim.Native.Nat.{ℕ, ◌+◌, ◌-◌, ◌/◌, ◌≤◌, ◌<◌}
 use native.Mathlib.Omega.{arith}
-use borrow.Author.Tests.{eqb-true}
-use lib.Dec.{eqb}
 use lib.ListN.{length, get_or, drop}
 use Rattle.utf8.specs.Utf8.{utf8}
 use Rattle.utf8.specs.Read.{Passed}
@@ -31,9 +28,3 @@ module _ {s : List ℕ} {i low k : ℕ} (b : Block s i low k) where
         most = omega arith;
         ascii = λ z. rw n (passed_ascii (b.ascii (omega arith)) (omega arith) (omega arith));
       }
-
-  pub block_end : 16 ≤ k → eqb low 16 ≡ true → Passed s i (utf8 (drop i s)) (i + 16)
-  block_end h e =
-      let q = eqb-true low 16 e in
-      let n : k ≡ 16 = omega arith in
-      rw n at (b.ascii (omega arith))

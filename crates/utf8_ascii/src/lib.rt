@@ -11,10 +11,8 @@ fn ascii_block(s: &[u8], i: usize) -> bool
     ensures { result ≡ true → Passed s.now i (utf8 (drop i s.now)) (i + 16) }
 {
     let mut low: u32 = 0;
-    let mut k: usize = 0;
-    while k < 16 {
-        low += (255 - le::wide(s[i + k])) / 128;
-        k += 1;
+    for k in 0..16 {
+        low += (255 - u32::from(s[i + k])) / 128;
     }
     low == 16
 }
@@ -24,12 +22,8 @@ pub fn skip_blocks(s: &[u8], i: usize) -> usize
     requires { i ≤ length s.now }
     ensures { Passed s.now i (utf8 (drop i s.now)) result }
 {
-    let n = s.len();
     let mut j = i;
-    while 16 <= n - j {
-        if !ascii_block(s, j) {
-            return j;
-        }
+    while 16 <= s.len() - j && ascii_block(s, j) {
         j += 16;
     }
     j
@@ -40,13 +34,10 @@ pub fn skip_ascii(s: &[u8], i: usize) -> usize
     requires { i ≤ length s.now }
     ensures { Passed s.now i (utf8 (drop i s.now)) result }
 {
-    let n = s.len();
-    let mut j = i;
-    while j < n {
+    for j in i..s.len() {
         if 0x7f < s[j] {
             return j;
         }
-        j += 1;
     }
-    j
+    s.len()
 }

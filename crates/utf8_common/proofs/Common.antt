@@ -55,26 +55,6 @@ module _ {s : List ℕ} {i : ℕ} {whole : Bool} {q p k : ℕ} where
       let n : k + 1 ≡ j + 3 = omega arith in
       clear (omega (arith, t.high)) (omega (arith, u.high)) (rw n (passed_common r (omega arith) (rw eq at f) (rw ep at t) (rw x at u)))
 
-  -- where the last character that is whole ends
-  pub stand_one : Stand s i whole q p k → 0xe0 < p → Passed s i whole (k - 1)
-  stand_one (clear hq hp r) h = absurd (omega arith)
-  stand_one (one j ek ep f r) h =
-      let n : k - 1 ≡ j = omega arith in
-      rw n r
-  stand_one (two j ek eq ep f t r) h = absurd (omega (arith, t.high))
-
-  pub stand_two : Stand s i whole q p k → p ≤ 0xe0 → 0xe0 < q → Passed s i whole (k - 2)
-  stand_two (clear hq hp r) h l = absurd (omega arith)
-  stand_two (one j ek ep f r) h l = absurd (omega (arith, f.low))
-  stand_two (two j ek eq ep f t r) h l =
-      let n : k - 2 ≡ j = omega arith in
-      rw n r
-
-  pub stand_clear : Stand s i whole q p k → p ≤ 0xe0 → q ≤ 0xe0 → Passed s i whole k
-  stand_clear (clear hq hp r) h l = r
-  stand_clear (one j ek ep f r) h l = absurd (omega (arith, f.low))
-  stand_clear (two j ek eq ep f t r) h l = absurd (omega (arith, f.low))
-
 -- ---- `common_block`
 
 -- the bytes from i to k are looked at, and odds of them are odd
@@ -111,10 +91,3 @@ module _ {s : List ℕ} {i odds k : ℕ} (c : Counted s i odds k) (h : i + 66 �
         few = omega (arith, c.few, a.most, c.least);
         stand = λ e. rw (p, q) (stand_on (c.stand (omega arith)) (get_or s k 0) (omega arith) refl (a.zero (omega arith)));
       }
-
-  module _ (e : i + 66 ≤ k) (z : odds ≤ 0) where
-    -- how the whole block stands
-    pub counted-all : Stand s i (utf8 (drop i s)) (get_or s (i + 66 - 2) 0) (get_or s (i + 66 - 1) 0) (i + 66)
-    counted-all =
-        let n : k ≡ i + 66 = omega (arith, c.most) in
-        rw n at (c.stand (omega arith))

@@ -21,11 +21,6 @@ pub record Behind (q p b : ℕ) : Type 0 where
   pub third : 0xe0 < q → Tail b
   pub start : p ≤ 0xe0 → q ≤ 0xe0 → Start b
 
-pub record Larger (p q r : ℕ) : Type 0 where
-  pub left : p ≤ r
-  pub right : q ≤ r
-  pub least : (z : ℕ) → p ≤ z → q ≤ z → r ≤ z
-
 -- r is 0 or 1, and 0 only where it is as asked
 pub record ZeroFor (asked : Type 0) (r : ℕ) : Type 0 where
   pub most : r ≤ 1

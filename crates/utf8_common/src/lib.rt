@@ -5,7 +5,7 @@
 ghost use Rattle.std.specs.Prelude.{◌≡◌, true, ◌+◌, ◌<◌, ◌≤◌, length, drop};
 ghost use Rattle.utf8.specs.Utf8.{utf8};
 ghost use Rattle.utf8.specs.Read.{Passed};
-ghost use Rattle.utf8_common.specs.Common.{Tail, Start, Behind, Larger, ZeroFor};
+ghost use Rattle.utf8_common.specs.Common.{Tail, Start, Behind, ZeroFor};
 
 // The bytes of a block of ASCII and common characters.
 pub const BLOCK: usize = 66;
@@ -14,32 +14,14 @@ pub const BLOCK: usize = 66;
 fn not_tail(b: u8) -> u8
     ensures { ZeroFor (Tail b) result }
 {
-    if b < 0x80 {
-        return 1;
-    }
-    if 0xbf < b {
-        return 1;
-    }
-    0
+    u8::from(!matches!(b, 0x80..=0xbf))
 }
 
 // 0 where b is ASCII or starts a common character, else 1.
 fn not_start(b: u8) -> u8
     ensures { ZeroFor (Start b) result }
 {
-    if b <= 0x7f {
-        return 0;
-    }
-    if b <= 0xe0 {
-        return 1;
-    }
-    if b == 0xed {
-        return 1;
-    }
-    if 0xef < b {
-        return 1;
-    }
-    0
+    u8::from(!matches!(b, 0x00..=0x7f | 0xe1..=0xec | 0xee..=0xef))
 }
 
 // Whether a common character starts at i.
@@ -47,33 +29,20 @@ pub fn is_common(s: &[u8], i: usize) -> bool
     requires { i < length s.now }
     ensures { result ≡ true → Passed s.now (i + 1) (utf8 (drop i s.now)) (i + 3) }
 {
-    if s.len() - i < 3 {
-        return false;
-    }
-    if s[i] <= 0xe0 {
-        return false;
-    }
-    not_start(s[i]) + not_tail(s[i + 1]) + not_tail(s[i + 2]) == 0
-}
-
-// The larger of two bytes.
-fn larger(p: u8, q: u8) -> u8
-    ensures { Larger p q result }
-{
-    if p < q {
-        return q;
-    }
-    p
+    3 <= s.len() - i
+        && 0xe0 < s[i]
+        && not_start(s[i]) + not_tail(s[i + 1]) + not_tail(s[i + 2]) == 0
 }
 
 // 0 where b can stand behind q and p in a text of ASCII and common characters, else 1.
 fn odd(q: u8, p: u8, b: u8) -> u8
     ensures { ZeroFor (Behind q p b) result }
 {
-    if 0xe0 < larger(p, q) {
-        return not_tail(b);
+    if 0xe0 < p.max(q) {
+        not_tail(b)
+    } else {
+        not_start(b)
     }
-    not_start(b)
 }
 
 // Goes on from i past the whole characters of a block of ASCII and common ones, or stays at i where it has others: odd bytes are counted with no way out
@@ -84,21 +53,18 @@ fn common_block(s: &[u8], i: usize) -> usize
 {
     let end = i + BLOCK;
     let mut odds = odd(0, 0, s[i]) + odd(0, s[i], s[i + 1]);
-    let mut k = i + 2;
-    while k < end {
+    for k in i + 2..end {
         odds += odd(s[k - 2], s[k - 1], s[k]);
-        k += 1;
     }
     if 0 < odds {
-        return i;
+        i
+    } else if 0xe0 < s[end - 1] {
+        end - 1
+    } else if 0xe0 < s[end - 2] {
+        end - 2
+    } else {
+        end
     }
-    if 0xe0 < s[end - 1] {
-        return end - 1;
-    }
-    if 0xe0 < s[end - 2] {
-        return end - 2;
-    }
-    end
 }
 
 // Goes on from i in blocks of ASCII and common characters.
@@ -106,9 +72,8 @@ pub fn skip_common(s: &[u8], i: usize) -> usize
     requires { i ≤ length s.now }
     ensures { Passed s.now i (utf8 (drop i s.now)) result }
 {
-    let n = s.len();
     let mut j = i;
-    while BLOCK <= n - j {
+    while BLOCK <= s.len() - j {
         let r = common_block(s, j);
         if r == j {
             return j;

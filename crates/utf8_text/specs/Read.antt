@@ -1,11 +1,15 @@
 -- What the code's answer means. Assumes nothing.
+use Rattle.utf8_text.specs.declared.AloneError.{AloneError}
+use Rattle.utf8_text.specs.declared.AloneError.TheVariants.{TooLong, NotUtf8, Marked}
+use Rattle.std.specs.Prelude.{ℕ, Result, Ok, Err}
 use Rattle.text.specs.Answer.{Answer, Refused, Got}
-use Rattle.utf8_text.specs.declared.Alone.{Alone}
-use Rattle.utf8_text.specs.declared.Alone.TheVariants.{Fine, TooLong, NotUtf8, Marked}
 
 -- the number of each answer
-abbrev pub alone_of : Alone → Answer (Unit {0})
-alone_of Fine = Got tt
-alone_of TooLong = Refused 7
-alone_of NotUtf8 = Refused 1
-alone_of Marked = Refused 2
+abbrev pub alone_refusal : AloneError → ℕ
+alone_refusal TooLong = 7
+alone_refusal NotUtf8 = 1
+alone_refusal Marked = 2
+
+abbrev pub alone_of : Result (Unit {0}) AloneError → Answer (Unit {0})
+alone_of (Ok u) = Got u
+alone_of (Err e) = Refused (alone_refusal e)

@@ -1,27 +1,18 @@
--- `bar_line_price::are_digits` meets its contract: `Checked` is the invariant. Assumes nothing.
-use Prim.Native.Nat.{◌-◌}
-use mathlib.Core.Path.{refl, sym, ap}
-use Rattle.text_number.proofs.Digits.{natural-none, reading-first, reading-low, reading-high, reading-more, reading-last}
-use Rattle.bar_line_price.specs.Read.{is_number}
+-- Some bytes, each a digit or not. Assumes nothing.
+use Prim.Native.Nat.{◌≤◌, ◌<◌}
+use borrow.Author.Rules.{rules}
+use lib.ListN.{length, get_or}
+use Rattle.std.specs.Prelude.{EachIndex, IsTrue, ◌↔◌}
+use Rattle.bar_line_price.proofs.Digits.{digits_each, no_digits}
 use Rattle.bar_line_price.proofs.are_digits.Goals as goal
 
-pub returns-then-from-to : goal.returns-then-from-to
-returns-then-from-to c = sym (ap is_number (natural-none c.requires c.if-from-to.true))
+pub returns-then-not-is_empty : goal.returns-then-not-is_empty
+returns-then-not-is_empty c =
+    let each : IsTrue c.all.result ↔ EachIndex c.args.s.now (λ k. (48 ≤ get_or c.args.s.now k 0) × (get_or c.args.s.now k 0 ≤ 57)) = search rules in
+    let some : 0 < length c.args.s.now = search rules in
+    digits_each c.args.s.now c.all.result some each
 
-pub loop-i-init : goal.loop-i-init
-loop-i-init c = record { value = _; reading = reading-first c.requires c.if-from-to.false }
-
-pub returns-then-d-lt48 : goal.returns-then-d-lt48
-returns-then-d-lt48 c =
-    sym (ap is_number (reading-low c.loop-i.invariant.reading c.loop-i-test.true c.if-d-lt48.true))
-
-pub returns-then-d-gt57 : goal.returns-then-d-gt57
-returns-then-d-gt57 c =
-    sym (ap is_number (reading-high c.loop-i.invariant.reading c.loop-i-test.true c.if-d-lt48.false c.if-d-gt57.true))
-
-pub loop-i-preserved : goal.loop-i-preserved
-loop-i-preserved c =
-    record { value = _; reading = reading-more c.loop-i.invariant.reading c.loop-i-test.true c.if-d-lt48.false c.if-d-gt57.false _ refl }
-
-pub returns : goal.returns
-returns c = sym (ap is_number (reading-last c.loop-i.invariant.reading c.loop-i-test.false))
+pub returns-else-not-is_empty : goal.returns-else-not-is_empty
+returns-else-not-is_empty c =
+    let none : length c.args.s.now ≤ 0 = search rules in
+    rw c.if-not-is_empty.false (no_digits c.args.s.now none)

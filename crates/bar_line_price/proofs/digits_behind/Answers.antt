@@ -1,26 +1,27 @@
--- `bar_line_price::digits_behind` meets its contract: `Continuing` is the invariant. Assumes nothing.
-use Prim.Native.Nat.{◌-◌}
+-- One digit more behind the value. Assumes nothing.
 use native.Mathlib.Omega.{arith}
-use Rattle.bar_line_price.proofs.Digits.{continuing_first, continuing_most, continuing_digit, continuing_more, continuing_last}
+use mathlib.Core.Path.{◌≡◌}
+use lib.ListN.{length}
+use Rattle.bar_line_price.proofs.Digits.{every-each, continuing_first, continuing_most, continuing_more, continuing_last}
 use Rattle.bar_line_price.proofs.digits_behind.Goals as goal
 
-pub loop-i-init : goal.loop-i-init
-loop-i-init c = continuing_first c.requires
+pub loop-b-init : goal.loop-b-init
+loop-b-init c = continuing_first _ _
 
 pub overflow_mul-w : goal.overflow_mul-w
-overflow_mul-w c = omega (arith, continuing_most c.loop-i.invariant)
+overflow_mul-w c = omega (arith, continuing_most c.loop-b.invariant c.requires.few (omega arith))
 
-pub overflow_sub-w : goal.overflow_sub-w
-overflow_sub-w c = (continuing_digit c.loop-i.invariant c.loop-i-test.true).0
-
-pub overflow_cast-w : goal.overflow_cast-w
-overflow_cast-w c = omega (arith, continuing_digit c.loop-i.invariant c.loop-i-test.true)
+pub overflow_sub-b : goal.overflow_sub-b
+overflow_sub-b c = omega (arith, every-each c.args.s.now c.requires.digits c.loop-b.b-index c.loop-b-test.true)
 
 pub overflow_add-w : goal.overflow_add-w
-overflow_add-w c = omega (arith, continuing_most c.loop-i.invariant, continuing_digit c.loop-i.invariant c.loop-i-test.true)
+overflow_add-w c =
+    omega (arith, continuing_most c.loop-b.invariant c.requires.few (omega arith), every-each c.args.s.now c.requires.digits c.loop-b.b-index c.loop-b-test.true)
 
-pub loop-i-preserved : goal.loop-i-preserved
-loop-i-preserved c = continuing_more c.loop-i.invariant c.loop-i-test.true
+pub loop-b-preserved : goal.loop-b-preserved
+loop-b-preserved c = rw c.from.ensures (continuing_more c.loop-b.invariant c.requires.digits c.loop-b-test.true)
 
 pub returns : goal.returns
-returns c = continuing_last c.loop-i.invariant c.loop-i-test.false
+returns c =
+    let e : c.loop-b.b-index ≡ length c.args.s.now = omega arith in
+    continuing_last (rw e at c.loop-b.invariant)

@@ -19,7 +19,7 @@ pub returns : goal.returns
 unfolding hold_bytes
 returns c =
     let o = c.args.o in
-    let two = rw (c.pos_code.ensures, c.yield_flag.ensures) at c.put_two.ensures in
+    let two = rw (c.pos_code.ensures, c.yield_flag.ensures) at c.put_bytes.ensures in
     let w1 = put_first 12 c.put_time.ensures (time-length o.time) (omega arith) in
     let w2 = put_next 2 (pos_code o.pos ∷ yield_flag o.n1b ∷ []) w1 two refl refl (omega arith) in
     let w3 = put_next 2 (put16 o.lots) w2 c.put_u16.ensures (length-le_bytes 2 _) (omega arith) (omega arith) in

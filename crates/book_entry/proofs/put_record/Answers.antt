@@ -18,7 +18,7 @@ pub returns : goal.returns
 unfolding record_bytes
 returns c =
     let r = c.args.r in
-    let four = rw (c.pos_code.ensures, c.description_code.ensures) at c.put_four.ensures in
+    let four = rw (c.pos_code.ensures, c.description_code.ensures) at c.put_bytes.ensures in
     let event = rw c.description_event.ensures at c.put_u16.ensures in
     let w1 = put_first 12 c.put_time.ensures (time-length r.bar.time) (omega arith) in
     let w2 = put_next 4 (put32 r.bar.id) w1 c.put_u32.ensures (length-le_bytes 4 _) refl (omega arith) in

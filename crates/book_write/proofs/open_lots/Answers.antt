@@ -13,4 +13,4 @@ slice_bounds-hold_at-end c =
 
 pub returns : goal.returns
 returns c =
-    lots_some c.args.b.now c.get_u32-holds.ensures c.hold_at-o.ensures c.if-holds-eq0.false
+    lots_some c.args.b.now c.get_u32-holds.ensures c.hold_at.ensures c.if-holds-eq0.false

@@ -2,12 +2,12 @@
 use Rattle.book_write.proofs.Written.{recorded_none, recorded_one}
 use Rattle.book_write.proofs.put_wrote.Goals as goal
 
-pub returns-in_default : goal.returns-in_default
-returns-in_default c =
+pub returns-in-None : goal.returns-in-None
+returns-in-None c =
     let a = c.args in
-    recorded_none a.b.now a.at c.in_default.is
+    recorded_none a.b.now a.at c.in-None.is
 
-pub returns : goal.returns
-returns c =
+pub returns-in-Some : goal.returns-in-Some
+returns-in-Some c =
     let a = c.args in
-    recorded_one a.b.now a.at c.in-One.is c.put_record.ensures
+    recorded_one a.b.now a.at c.in-Some.is c.put_record.ensures

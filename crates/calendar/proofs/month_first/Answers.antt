@@ -5,5 +5,5 @@ use Rattle.calendar.proofs.month_first.Goals as goal
 pub returns-then-m-le2 : goal.returns-then-m-le2
 returns-then-m-le2 c = early c.requires c.if-m-le2.true
 
-pub returns : goal.returns
-returns c = late c.requires c.if-m-le2.false
+pub returns-else-m-le2 : goal.returns-else-m-le2
+returns-else-m-le2 c = late c.requires c.if-m-le2.false

@@ -5,11 +5,7 @@ use mir.Syntax.{w64}
 use mir.Facts.{to_z-of_z}
 use Rattle.double.specs.Double.{days_of}
 use Rattle.double.proofs.Constants.{day_is}
-use Rattle.double.proofs.Tests.{held}
 use Rattle.double.proofs.days.Goals as goal
-
-pub int_to_float-result : goal.int_to_float-result
-int_to_float-result c = rw (to_z-of_z {w = w64} c.ranges.seconds) (held c.args.seconds c.requires)
 
 pub returns : goal.returns
 unfolding days_of

@@ -12,8 +12,8 @@ returns-then-own c =
     let t : lt (whole 0) c.args.own ≡ true = rw zero_is at c.if-own.true in
     rw (t, c.gain.ensures, scale_is)
 
-pub returns : goal.returns
+pub returns-else-own : goal.returns-else-own
 unfolding hold_yield
-returns c =
+returns-else-own c =
     let t : lt (whole 0) c.args.own ≡ false = rw zero_is at c.if-own.false in
     rw t

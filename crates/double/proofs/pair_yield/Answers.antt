@@ -13,9 +13,9 @@ returns-then-opening c =
     let t : is_zero x ≡ true = sym (zero_test x) ∙ (rw zero_is at c.if-opening.true) in
     rw t
 
-pub returns : goal.returns
+pub returns-else-opening : goal.returns-else-opening
 unfolding pair_yield
-returns c =
+returns-else-opening c =
     let x = c.args.opening in
     let t : is_zero x ≡ false = sym (zero_test x) ∙ (rw zero_is at c.if-opening.false) in
     rw (t, c.round_away.ensures, c.gain.ensures, scale_is, hundred_is)

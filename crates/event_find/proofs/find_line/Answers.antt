@@ -1,6 +1,5 @@
 -- `event_find::find_line` meets its contract: `Seeking`, no line up to here has the key, is the invariant. Assumes nothing.
 use mathlib.Core.Path.{sym, ◌∙◌}
-use Prim.Native.Nat.{◌-◌}
 use Rattle.event_find.proofs.Seek.{key-part, seek_others, seek_last, seek_found, seek_more}
 use Rattle.event_find.proofs.find_line.Goals as goal
 

@@ -1,5 +1,4 @@
 -- `event_find::has_print` meets its contract: `Counting` is the invariant. Assumes nothing.
-use Prim.Native.Nat.{◌-◌}
 use borrow.Author.Tests.{ltb-false}
 use Rattle.event_find.proofs.Others.{counting_start, counting_more, counting_end}
 use Rattle.event_find.proofs.has_print.Goals as goal
@@ -8,8 +7,7 @@ pub loop-k-init : goal.loop-k-init
 loop-k-init c = counting_start _ _ _
 
 pub loop-k-preserved : goal.loop-k-preserved
-loop-k-preserved c =
-    counting_more c.loop-k.invariant c.loop-k-test.true c.equal-count.ensures
+loop-k-preserved c = counting_more c.loop-k.invariant c.loop-k-test.true c.from-count.ensures
 
 pub returns : goal.returns
 returns c e = counting_end c.loop-k.invariant c.loop-k-test.false (ltb-false _ _ e)

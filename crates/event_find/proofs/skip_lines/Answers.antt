@@ -1,5 +1,4 @@
 -- `event_find::skip_lines` meets its contract: `Skipping` is the invariant. Assumes nothing.
-use Prim.Native.Nat.{◌-◌}
 use native.Mathlib.Omega.{arith}
 use Rattle.event_find.proofs.Others.{skipping_start, skipping_more, skipping_end}
 use Rattle.event_find.proofs.skip_lines.Goals as goal

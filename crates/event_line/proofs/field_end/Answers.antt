@@ -1,5 +1,4 @@
 -- `event_line::field_end` meets its contract: `Passing` is the invariant. Assumes nothing.
-use Prim.Native.Nat.{◌-◌}
 use native.Mathlib.Omega.{arith}
 use Rattle.event_line.proofs.Blocks.{end_on, passing_start, passing_found, passing_block}
 use Rattle.event_line.proofs.field_end.Goals as goal

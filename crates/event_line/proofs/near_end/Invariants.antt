@@ -1,11 +1,6 @@
 -- What the loops keep.
-use Prim.Native.Nat.{◌-◌}
-use lib.ListN.{length}
 use Rattle.event_line.proofs.Blocks.{Passing}
 use Rattle.event_line.proofs.near_end.Given as goal
 
 abbrev pub invariant-loop-i : goal.invariant-loop-i
 invariant-loop-i l = Passing l.s l.from l.i
-
-abbrev pub decreases-loop-i : goal.decreases-loop-i
-decreases-loop-i l = length l.s - l.i

@@ -1,5 +1,4 @@
 -- `event_line::plain_block` meets its contract: `Looked` is the invariant. Assumes nothing.
-use Prim.Native.Nat.{◌-◌}
 use Rattle.event_line.proofs.Blocks.{looked_start, looked_more, looked_end}
 use Rattle.event_line.proofs.plain_block.Goals as goal
 
@@ -8,7 +7,7 @@ loop-k-init c = looked_start _ _
 
 pub loop-k-preserved : goal.loop-k-preserved
 loop-k-preserved c =
-    looked_more c.loop-k.invariant c.loop-k-test.true c.place.ensures c.lesser-first.ensures
+    looked_more c.loop-k.invariant c.loop-k-test.true c.place.ensures c.min-first.ensures
 
 pub returns : goal.returns
 returns c = looked_end c.loop-k.invariant c.loop-k-test.false

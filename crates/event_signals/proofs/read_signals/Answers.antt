@@ -1,6 +1,5 @@
 -- The text's own refusals first, then its lines. Assumes nothing.
 use mathlib.Core.Path.{◌∙◌, sym}
-use lib.ListN.{length-set}
 use Rattle.event_signals.proofs.Adding.{reading-first, signals-long, signals-bytes, signals-fine}
 use Rattle.event_signals.proofs.read_signals.Goals as goal
 
@@ -13,6 +12,3 @@ returns-then-not-valid c = signals-bytes c.if-s-gt-TEXT_LIMIT.false (sym c.valid
 pub read_lines-requires : goal.read_lines-requires
 read_lines-requires c =
     reading-first _ _ _ _ (signals-fine _ c.if-s-gt-TEXT_LIMIT.false (sym c.valid.ensures ∙ c.if-not-valid.false)) c.requires
-
-pub shape_of-starts : goal.shape_of-starts
-shape_of-starts c = c.starts-1.given ∙ length-set c.args.starts.now 0 0

@@ -1,9 +1,7 @@
 -- `le::get_u16` meets its contract. Assumes nothing.
-use Rattle.le.proofs.Laws.{two}
 use native.Mathlib.Omega.{arith}
+use Rattle.le.proofs.Laws.{read-bytes}
 use Rattle.le.proofs.get_u16.Goals as goal
 
 pub returns : goal.returns
-returns c =
-    let b = c.before.before.before.before.before in
-    omega (arith, two b.args.s.now b.args.at b.requires)
+returns c = omega (arith, c.from_le_bytes.ensures, read-bytes c.args.s.now c.args.at 1 c.requires)

@@ -1,9 +1,7 @@
 -- `le::get_u32` meets its contract. Assumes nothing.
 use native.Mathlib.Omega.{arith}
-use Rattle.le.proofs.Laws.{four}
+use Rattle.le.proofs.Laws.{read-bytes}
 use Rattle.le.proofs.get_u32.Goals as goal
 
 pub returns : goal.returns
-returns c =
-    let a = c.args in
-    omega (arith, four a.s.now a.at c.requires)
+returns c = omega (arith, c.from_le_bytes.ensures, read-bytes c.args.s.now c.args.at 3 c.requires)

@@ -1,8 +1,9 @@
 -- `le::put_u64` meets its contract. Assumes nothing.
-use Rattle.le.proofs.Laws.{put_eight}
+use mathlib.Core.Path.{◌∙◌}
+use Rattle.le.proofs.Laws.{bytes-are, length-le_bytes, copied}
 use Rattle.le.proofs.put_u64.Goals as goal
 
 pub returns : goal.returns
 returns c =
-    let b = c.before.before.before.before.before.before.before.before.before in
-    put_eight b.args.s.now _ _ b.args.at b.args.v b.requires c.put_u32.ensures c.put_u32-2.ensures
+    let bytes = c.copy_from_slice.ensures.after ∙ c.to_le_bytes.ensures ∙ bytes-are 8 c.args.v in
+    copied c.args.s.now _ _ c.args.at 8 bytes (length-le_bytes 8 c.args.v)

@@ -1,19 +1,20 @@
--- One code after another, until a spelling fits or the codes end. Assumes nothing.
+-- One operate after another, until a spelling fits or they end. Assumes nothing.
 use mathlib.Core.Path.{sym, ◌∙◌}
-use Prim.Native.Nat.{◌-◌}
-use Rattle.operate.proofs.Laws.{seeking_first, seeking_hit, seeking_more, seeking_none}
+use Rattle.operate.proofs.Laws.{code_at, seeking_first, seeking_hit, seeking_more, seeking_none}
 use Rattle.operate.proofs.parse_operate.Goals as goal
 
-pub loop-code-init : goal.loop-code-init
-loop-code-init c = seeking_first _
+pub loop-operate-init : goal.loop-operate-init
+loop-operate-init c = seeking_first _
 
-pub returns-then-spells : goal.returns-then-spells
-returns-then-spells c =
-    c.of_code.ensures ∙ seeking_hit c.loop-code.invariant c.loop-code-test.true (sym c.spells.ensures ∙ c.if-spells.true)
+pub returns-then-is_spelled : goal.returns-then-is_spelled
+returns-then-is_spelled c =
+    let code = code_at c.loop-operate.operate-index c.loop-operate-test.true in
+    rw code (seeking_hit c.loop-operate.invariant c.loop-operate-test.true (sym (rw code at c.is_spelled.ensures) ∙ c.if-is_spelled.true))
 
-pub loop-code-preserved : goal.loop-code-preserved
-loop-code-preserved c =
-    seeking_more c.loop-code.invariant c.loop-code-test.true (sym c.spells.ensures ∙ c.if-spells.false)
+pub loop-operate-preserved : goal.loop-operate-preserved
+loop-operate-preserved c =
+    let code = code_at c.loop-operate.operate-index c.loop-operate-test.true in
+    seeking_more c.loop-operate.invariant c.loop-operate-test.true (sym (rw code at c.is_spelled.ensures) ∙ c.if-is_spelled.false)
 
 pub returns : goal.returns
-returns c = seeking_none c.loop-code.invariant c.loop-code-test.false
+returns c = seeking_none c.loop-operate.invariant c.loop-operate-test.false

@@ -1,10 +1,6 @@
--- What the loops keep.
-use Prim.Native.Nat.{◌-◌}
+-- What the loop keeps.
 use Rattle.operate.proofs.Laws.{Seeking}
 use Rattle.operate.proofs.parse_operate.Given as goal
 
-abbrev pub invariant-loop-code : goal.invariant-loop-code
-invariant-loop-code l = Seeking l.s l.code
-
-abbrev pub decreases-loop-code : goal.decreases-loop-code
-decreases-loop-code l = 7 - l.code
+abbrev pub invariant-loop-operate : goal.invariant-loop-operate
+invariant-loop-operate l = Seeking l.s l.operate-index

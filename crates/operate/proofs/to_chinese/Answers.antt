@@ -1,9 +1,8 @@
 -- Each arm's bytes are the name at its code. Assumes nothing.
-use native.Mathlib.Omega.{arith}
 use mathlib.Core.Path.{refl}
 use Rattle.text.specs.Literal.{bytes, encoded}
 use Rattle.operate.specs.Operate.{chinese}
-use Rattle.operate.proofs.Laws.{past_arms, at}
+use Rattle.operate.proofs.Laws.{at}
 use Rattle.operate.proofs.to_chinese.Goals as goal
 
 pub returns-in-0 : goal.returns-in-0
@@ -33,7 +32,3 @@ returns-in-5 c = at chinese 6 5 c.args.code c.in-5.is refl refl
 pub returns-in-6 : goal.returns-in-6
 unfolding chinese bytes encoded
 returns-in-6 c = at chinese 6 6 c.args.code c.in-6.is refl refl
-
-pub returns-in_default : goal.returns-in_default
-unfolding chinese bytes encoded
-returns-in_default c = absurd (omega (arith, past_arms c.args.code c.in_default.in_default-own.rest))

@@ -3,4 +3,4 @@ use Rattle.position_book.proofs.Results.{name-is}
 use Rattle.position_book.proofs.position_book_event_name.Goals as goal
 
 pub returns : goal.returns
-returns c = name-is c.ranges.index c.event_name-r.ensures c.name_answer.ensures
+returns c = name-is c.ranges.index c.event_name.ensures c.name_answer.ensures

@@ -6,4 +6,4 @@ pub returns : goal.returns
 returns c =
     let a = c.args in
     let f = c.ranges in
-    feed_is a.table.now (record { id = a.id; instant = a.instant; offset = a.offset; price = a.price; signals = a.signals.now }) f.id f.instant f.offset c.feed_bar-r.ensures c.feed_answer.ensures
+    feed_is a.table.now (record { id = a.id; instant = a.instant; offset = a.offset; price = a.price; signals = a.signals.now }) f.id f.instant f.offset c.feed_bar.ensures c.feed_answer.ensures

@@ -3,4 +3,4 @@ use Rattle.position_book.proofs.Results.{fed-is}
 use Rattle.position_book.proofs.position_book_feed_line.Goals as goal
 
 pub returns : goal.returns
-returns c = fed-is c.feed_line-r.ensures c.feed_answer.ensures
+returns c = fed-is c.feed_line.ensures c.feed_answer.ensures

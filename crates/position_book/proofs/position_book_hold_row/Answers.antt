@@ -9,4 +9,4 @@ use Rattle.position_book.proofs.position_book_hold_row.Goals as goal
 pub returns : goal.returns
 returns c =
     let back = ap (hold_do c.args.table.now c.args.book.now) (to_z-of_z {w = w64} c.ranges.index) in
-    c.hold_answer.ensures ∙ ap hold_answer (c.hold_row-r.ensures ∙ back)
+    c.hold_answer.ensures ∙ ap hold_answer (c.hold_row.ensures ∙ back)

@@ -5,4 +5,4 @@ use Rattle.position_book.proofs.position_book_hold_rows.Goals as goal
 
 pub returns : goal.returns
 returns c =
-    block_is c.ranges.first (λ z. hold_block_do c.args.table.now c.args.book.now z c.args.rows.now) c.hold_rows-r.ensures c.block_answer.ensures
+    block_is c.ranges.first (λ z. hold_block_do c.args.table.now c.args.book.now z c.args.rows.now) c.hold_rows.ensures c.block_answer.ensures

@@ -3,17 +3,17 @@ use mathlib.Core.Path.{◌∙◌, sym}
 use Rattle.text.proofs.Tested.{no, yes}
 use Rattle.revise_first.proofs.Fields.{first-other, first_open, first_count, first-room, first_five, first-is}
 use Rattle.revise_first.proofs.read_first.Goals as goal
+use Rattle.revise_first.proofs.read_first.Goals.{then-not-is_bar-via-then-not-is_bar, then-not-is_bar-via-else-not-is_bar+then-s-last-ne-LF, then-not-is_bar-via-else-not-is_bar+else-s-last-ne-LF+then-count_parts-ne6}
 
 pub returns-then-not-is_bar : goal.returns-then-not-is_bar
-returns-then-not-is_bar c = first-other c.requires (no c.is_bar.ensures c.if-not-is_bar.true)
-
-pub returns-then-s-last-ne-LF : goal.returns-then-s-last-ne-LF
-returns-then-s-last-ne-LF c =
-    first_open c.requires (yes c.is_bar.ensures c.if-not-is_bar.false) c.if-s-last-ne-LF.true
-
-pub returns-then-count_parts-ne6 : goal.returns-then-count_parts-ne6
-returns-then-count_parts-ne6 c =
-    first_count c.requires (yes c.is_bar.ensures c.if-not-is_bar.false) c.if-s-last-ne-LF.false (λ e. c.if-count_parts-ne6.true (c.count_parts.ensures ∙ e))
+returns-then-not-is_bar c =
+    elim c.then-not-is_bar.branch [
+      | then-not-is_bar-via-then-not-is_bar w ↦ first-other c.requires (no c.is_bar.ensures w.if-not-is_bar.true)
+      | then-not-is_bar-via-else-not-is_bar+then-s-last-ne-LF w ↦
+          first_open c.requires (yes c.is_bar.ensures w.if-not-is_bar.false) w.if-s-last-ne-LF.true
+      | then-not-is_bar-via-else-not-is_bar+else-s-last-ne-LF+then-count_parts-ne6 w ↦
+          first_count c.requires (yes c.is_bar.ensures w.if-not-is_bar.false) w.if-s-last-ne-LF.false (λ e. w.if-count_parts-ne6.true (w.count_parts.ensures ∙ e))
+    ]
 
 pub read_fields-requires : goal.read_fields-requires
 read_fields-requires c =

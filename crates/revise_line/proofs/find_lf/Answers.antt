@@ -1,5 +1,4 @@
 -- `Passing` is the invariant: no LF stands before i. Assumes nothing.
-use Prim.Native.Nat.{◌-◌}
 use native.Mathlib.Omega.{arith}
 use Rattle.revise_line.proofs.Blocks.{passing_start, passing_found, passing_block}
 use Rattle.revise_line.proofs.find_lf.Goals as goal

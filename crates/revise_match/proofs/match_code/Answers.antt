@@ -12,14 +12,14 @@ use Rattle.revise_match.proofs.match_code.Goals as goal
 pub overflow_cast-result : goal.overflow_cast-result
 overflow_cast-result c =
     let few : (counts_in c.args.t.now).events ≤ 32 = (headed _ (table_facts _ c.requires.t_value).0).events-few in
-    let k = subst (MatchAs _ _ _ _ _) c.in-Event.is c.first_match.ensures in
+    let k = subst (MatchAs _ _ _ _ _) c.in-Some.is c.first_match.ensures in
     omega (arith, k.ok, few)
 
-pub returns-in-Event : goal.returns-in-Event
-returns-in-Event c =
+pub returns-in-Some : goal.returns-in-Some
+returns-in-Some c =
     let few : (counts_in c.args.t.now).events ≤ 32 = (headed _ (table_facts _ c.requires.t_value).0).events-few in
-    let k = subst (MatchAs _ _ _ _ _) c.in-Event.is c.first_match.ensures in
+    let k = subst (MatchAs _ _ _ _ _) c.in-Some.is c.first_match.ensures in
     code_event k.is k.ok few
 
-pub returns-in-Nothing : goal.returns-in-Nothing
-returns-in-Nothing c = code_nothing (subst (MatchAs _ _ _ _ _) c.in-Nothing.is c.first_match.ensures).is
+pub returns-in-None : goal.returns-in-None
+returns-in-None c = code_nothing (subst (MatchAs _ _ _ _ _) c.in-None.is c.first_match.ensures).is

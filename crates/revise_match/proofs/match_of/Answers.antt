@@ -5,5 +5,5 @@ use Rattle.revise_match.proofs.match_of.Goals as goal
 pub returns-then-code-eq-NOTHING : goal.returns-then-code-eq-NOTHING
 returns-then-code-eq-NOTHING c = rw (eq-eqb _ _ c.if-code-eq-NOTHING.true)
 
-pub returns : goal.returns
-returns c = rw (ne_eqb _ _ c.if-code-eq-NOTHING.false)
+pub returns-else-code-eq-NOTHING : goal.returns-else-code-eq-NOTHING
+returns-else-code-eq-NOTHING c = rw (ne_eqb _ _ c.if-code-eq-NOTHING.false)

@@ -1,3 +1,4 @@
+-- The S lines before `at` are copied; each turn is one line further.
 use Rattle.revise_signals.proofs.Taking.{Taking}
 use Prim.Native.Nat.{◌-◌}
 use lib.ListN.{length}

@@ -1,10 +1,6 @@
--- What the loops keep.
-use Prim.Native.Nat.{◌-◌}
+-- What the loop keeps.
 use Rattle.row_blocks_holds.proofs.Writing.{Writing}
 use Rattle.row_blocks_holds.proofs.put_rows.Given as goal
 
 abbrev pub invariant-loop-i : goal.invariant-loop-i
-invariant-loop-i l = Writing l.b l.k l.initial.out l.out l.i l.at
-
-abbrev pub decreases-loop-i : goal.decreases-loop-i
-decreases-loop-i l = l.n - l.i
+invariant-loop-i l = Writing l.b l.k l.initial.out l.out l.i

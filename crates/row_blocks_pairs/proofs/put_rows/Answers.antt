@@ -1,118 +1,42 @@
--- `Walking` is the invariant: the rows before the pair that was found are written. Assumes nothing.
+-- `Walking` is the invariant: the rows of the pairs before record number j are written. Assumes nothing.
+use Prim.Native.Nat.{◌+◌, ◌<◌}
 use native.Mathlib.Omega.{arith}
-use mathlib.Core.Path.{◌≡◌, subst}
-use mathlib.Core.List.{map}
-use Rattle.table.specs.Layout.{parts_in}
-use Rattle.table.specs.Table.{sheet_of}
-use Rattle.row_pairs.specs.Found.{pair_from, found_of}
-use Rattle.row_pairs.specs.declared.FoundPair.{FoundPair}
-use Rattle.row_pairs.specs.declared.FoundPair.TheVariants.{At}
-use Rattle.row_blocks.specs.Blocks.{pair_row_bytes}
-use Rattle.row_blocks_pairs.specs.Added.{AddedAs}
-use Rattle.row_blocks_pairs.specs.declared.Added.{Added}
-use Rattle.row_blocks_pairs.proofs.Walking.{left_less, Walking, walking_none, walking_next, walking_full, walking_last}
+use mathlib.Core.Path.{◌∙◌, sym}
+use Rattle.le.specs.Field.{u32}
+use Rattle.row_blocks_pairs.proofs.Walking.{walking_none, walking_passed, walking_next, walking_full, walking_last}
 use Rattle.row_blocks_pairs.proofs.put_rows.Goals as goal
+use Rattle.row_blocks_pairs.proofs.put_rows.Goals.{then-opens_at+in-Some, else-opens_at}
 
-pub loop-found-init : goal.loop-found-init
-loop-found-init c = walking_none _ _ _ _ _ c.requires.followed
+pub loop-j-init : goal.loop-j-init
+loop-j-init c = walking_none _ _ _ _ _
+
+pub opens_at-requires : goal.opens_at-requires
+opens_at-requires c = omega (arith, c.requires.traded.room, c.loop-j-test.true, c.saturating_sub-j-end.ensures, c.get_u32-n.ensures)
 
 pub add_pair-requires : goal.add_pair-requires
-add_pair-requires c =
-    let seen : let a = c.args in
-    let l = c.loop-found in
-    let s = sheet_of (parts_in a.t.now) in
-    Walking s a.c a.b.now (map pair_row_bytes (found_of s a.c a.b.now a.first)) a.out.now l.out (At c.in-At.j) l.rows l.at =
-    let a = c.args in
-    let l = c.loop-found in
-    let s = sheet_of (parts_in a.t.now) in
-    subst (λ (f : FoundPair). Walking s a.c a.b.now (map pair_row_bytes (found_of s a.c a.b.now a.first)) a.out.now l.out f l.rows l.at) c.in-At.is l.invariant in
-    record { t_value = c.requires.t_value; traded = c.requires.traded; j_bound = seen.ok.1; at_in_bounds = omega (arith, seen.fit, seen.kept) }
-
-pub returns-in_default-add_pair : goal.returns-in_default-add_pair
-returns-in_default-add_pair c =
-    let seen : let a = c.args in
-    let l = c.loop-found in
-    let s = sheet_of (parts_in a.t.now) in
-    Walking s a.c a.b.now (map pair_row_bytes (found_of s a.c a.b.now a.first)) a.out.now l.out (At c.in-At.j) l.rows l.at =
-    let a = c.args in
-    let l = c.loop-found in
-    let s = sheet_of (parts_in a.t.now) in
-    subst (λ (f : FoundPair). Walking s a.c a.b.now (map pair_row_bytes (found_of s a.c a.b.now a.first)) a.out.now l.out f l.rows l.at) c.in-At.is l.invariant in
-    let added : (q : Added) → c.add_pair.result ≡ q
-    → let a = c.args in
-    let l = c.loop-found in
-    AddedAs (pair_from (sheet_of (parts_in a.t.now)) a.c a.b.now c.in-At.j) l.out c.add_pair.new.out l.at q = λ q e.
-    let a = c.args in
-    let l = c.loop-found in
-    subst (AddedAs (pair_from (sheet_of (parts_in a.t.now)) a.c a.b.now c.in-At.j) l.out c.add_pair.new.out l.at) e c.add_pair.ensures in
-    walking_full seen (added _ c.in_default-add_pair.is)
+add_pair-requires c = record {
+  t_value = c.requires.t_value;
+  traded = c.requires.traded;
+  j_bound = omega (arith, c.loop-j-test.true, c.saturating_sub-j-end.ensures, c.get_u32-n.ensures);
+  at_in_bounds = omega (arith, c.loop-j.invariant.fit, c.loop-j.invariant.kept);
+}
 
 pub overflow_add-rows : goal.overflow_add-rows
-overflow_add-rows c =
-    let seen : let a = c.args in
-    let l = c.loop-found in
-    let s = sheet_of (parts_in a.t.now) in
-    Walking s a.c a.b.now (map pair_row_bytes (found_of s a.c a.b.now a.first)) a.out.now l.out (At c.in-At.j) l.rows l.at =
-    let a = c.args in
-    let l = c.loop-found in
-    let s = sheet_of (parts_in a.t.now) in
-    subst (λ (f : FoundPair). Walking s a.c a.b.now (map pair_row_bytes (found_of s a.c a.b.now a.first)) a.out.now l.out f l.rows l.at) c.in-At.is l.invariant in
-    omega (arith, seen.ok.0, seen.ok.1, c.requires.traded.room)
+overflow_add-rows c = omega (arith, c.loop-j.invariant.few, c.loop-j-test.true)
 
-pub overflow_add-j : goal.overflow_add-j
-overflow_add-j c =
-    let seen : let a = c.args in
-    let l = c.loop-found in
-    let s = sheet_of (parts_in a.t.now) in
-    Walking s a.c a.b.now (map pair_row_bytes (found_of s a.c a.b.now a.first)) a.out.now l.out (At c.in-At.j) l.rows l.at =
-    let a = c.args in
-    let l = c.loop-found in
-    let s = sheet_of (parts_in a.t.now) in
-    subst (λ (f : FoundPair). Walking s a.c a.b.now (map pair_row_bytes (found_of s a.c a.b.now a.first)) a.out.now l.out f l.rows l.at) c.in-At.is l.invariant in
-    omega (arith, seen.ok.1, c.requires.traded.room)
+pub loop-j-preserved : goal.loop-j-preserved
+loop-j-preserved c =
+    let more : c.loop-j.j + 1 < u32 c.args.b.now 4 = omega (arith, c.loop-j-test.true, c.saturating_sub-j-end.ensures, c.get_u32-n.ensures) in
+    let r = c.loop-j.invariant in
+    elim c.if-opens_at.branch [
+      | then-opens_at+in-Some w ↦ rw (w.out-is, w.at-is, w.rows-is) (walking_next r more (sym w.if-opens_at.true ∙ c.opens_at.ensures) w.in-Some.ensures)
+      | else-opens_at w ↦ rw (w.out-is, w.at-is, w.rows-is) (walking_passed r more (sym w.if-opens_at.false ∙ c.opens_at.ensures))
+    ]
 
-pub find_pair-found-requires : goal.find_pair-found-requires
-find_pair-found-requires c =
-    let seen : let a = c.args in
-    let l = c.loop-found in
-    let s = sheet_of (parts_in a.t.now) in
-    Walking s a.c a.b.now (map pair_row_bytes (found_of s a.c a.b.now a.first)) a.out.now l.out (At c.in-At.j) l.rows l.at =
-    let a = c.args in
-    let l = c.loop-found in
-    let s = sheet_of (parts_in a.t.now) in
-    subst (λ (f : FoundPair). Walking s a.c a.b.now (map pair_row_bytes (found_of s a.c a.b.now a.first)) a.out.now l.out f l.rows l.at) c.in-At.is l.invariant in
-    record { b_in_bounds = c.requires.traded.room; from_bound = omega (arith, seen.ok.1) }
-
-pub loop-found-smaller : goal.loop-found-smaller
-loop-found-smaller c =
-    let seen : let a = c.args in
-    let l = c.loop-found in
-    let s = sheet_of (parts_in a.t.now) in
-    Walking s a.c a.b.now (map pair_row_bytes (found_of s a.c a.b.now a.first)) a.out.now l.out (At c.in-At.j) l.rows l.at =
-    let a = c.args in
-    let l = c.loop-found in
-    let s = sheet_of (parts_in a.t.now) in
-    subst (λ (f : FoundPair). Walking s a.c a.b.now (map pair_row_bytes (found_of s a.c a.b.now a.first)) a.out.now l.out f l.rows l.at) c.in-At.is l.invariant in
-    rw c.in-At.is (left_less _ _ c.find_pair-found.result seen.ok.1 c.find_pair-found.ensures.ok)
-
-pub loop-found-preserved : goal.loop-found-preserved
-loop-found-preserved c =
-    let seen : let a = c.args in
-    let l = c.loop-found in
-    let s = sheet_of (parts_in a.t.now) in
-    Walking s a.c a.b.now (map pair_row_bytes (found_of s a.c a.b.now a.first)) a.out.now l.out (At c.in-At.j) l.rows l.at =
-    let a = c.args in
-    let l = c.loop-found in
-    let s = sheet_of (parts_in a.t.now) in
-    subst (λ (f : FoundPair). Walking s a.c a.b.now (map pair_row_bytes (found_of s a.c a.b.now a.first)) a.out.now l.out f l.rows l.at) c.in-At.is l.invariant in
-    let added : (q : Added) → c.add_pair.result ≡ q
-    → let a = c.args in
-    let l = c.loop-found in
-    AddedAs (pair_from (sheet_of (parts_in a.t.now)) a.c a.b.now c.in-At.j) l.out c.add_pair.new.out l.at q = λ q e.
-    let a = c.args in
-    let l = c.loop-found in
-    subst (AddedAs (pair_from (sheet_of (parts_in a.t.now)) a.c a.b.now c.in-At.j) l.out c.add_pair.new.out l.at) e c.add_pair.ensures in
-    walking_next seen (added _ c.in-Next.is) c.find_pair-found.ensures
+pub returns-in_default : goal.returns-in_default
+returns-in_default c =
+    let more : c.loop-j.j + 1 < u32 c.args.b.now 4 = omega (arith, c.loop-j-test.true, c.saturating_sub-j-end.ensures, c.get_u32-n.ensures) in
+    walking_full c.loop-j.invariant more (sym c.if-opens_at.true ∙ c.opens_at.ensures) c.in_default.ensures
 
 pub returns : goal.returns
-returns c = walking_last c.loop-found.invariant c.in_default.is
+returns c = walking_last c.loop-j.invariant (omega (arith, c.loop-j-test.false, c.saturating_sub-j-end.ensures, c.get_u32-n.ensures))

@@ -1,49 +1,23 @@
--- `Counting` is the invariant: the pairs before the one that was found are counted. Assumes nothing.
+-- `Counting` is the invariant: the pairs before record number j are counted. Assumes nothing.
+use Prim.Native.Nat.{◌+◌, ◌<◌}
 use native.Mathlib.Omega.{arith}
-use mathlib.Core.Path.{subst}
-use Rattle.row_pairs.specs.declared.FoundPair.{FoundPair}
-use Rattle.row_pairs.specs.declared.FoundPair.TheVariants.{At}
-use Rattle.row_blocks_pairs.proofs.Walking.{left_less}
-use Rattle.row_counts.proofs.Counting.{Counting, counting_none, counting_next, counting_last}
+use mathlib.Core.Path.{◌∙◌, sym}
+use Rattle.le.specs.Field.{u32}
+use Rattle.row_counts.proofs.Counting.{counting_none, counting_next, counting_passed, counting_last}
 use Rattle.row_counts.proofs.count_pairs.Goals as goal
+use Rattle.row_counts.proofs.count_pairs.Goals.{then-opens_at, else-opens_at}
 
-pub loop-found-init : goal.loop-found-init
-loop-found-init c = counting_none c.find_pair-found.ensures
+pub loop-j-init : goal.loop-j-init
+loop-j-init c = counting_none _ _
 
-pub overflow_add-n : goal.overflow_add-n
-overflow_add-n c =
-    let seen : Counting c.args.c c.args.b.now (At c.in-At.j) c.loop-found.n =
-    let l = c.loop-found in
-    subst (λ (f : FoundPair). Counting c.args.c c.args.b.now f l.n) c.in-At.is l.invariant in
-    omega (arith, seen.ok.0, seen.ok.1, c.requires)
-
-pub overflow_add-j : goal.overflow_add-j
-overflow_add-j c =
-    let seen : Counting c.args.c c.args.b.now (At c.in-At.j) c.loop-found.n =
-    let l = c.loop-found in
-    subst (λ (f : FoundPair). Counting c.args.c c.args.b.now f l.n) c.in-At.is l.invariant in
-    omega (arith, seen.ok.1, c.requires)
-
-pub find_pair-found-requires-in-At : goal.find_pair-found-requires-in-At
-find_pair-found-requires-in-At c =
-    let seen : Counting c.args.c c.args.b.now (At c.in-At.j) c.loop-found.n =
-    let l = c.loop-found in
-    subst (λ (f : FoundPair). Counting c.args.c c.args.b.now f l.n) c.in-At.is l.invariant in
-    record { b_in_bounds = c.requires; from_bound = omega (arith, seen.ok.1) }
-
-pub loop-found-smaller : goal.loop-found-smaller
-loop-found-smaller c =
-    let seen : Counting c.args.c c.args.b.now (At c.in-At.j) c.loop-found.n =
-    let l = c.loop-found in
-    subst (λ (f : FoundPair). Counting c.args.c c.args.b.now f l.n) c.in-At.is l.invariant in
-    rw c.in-At.is (left_less _ _ c.find_pair-found-in-At.result seen.ok.1 c.find_pair-found-in-At.ensures.ok)
-
-pub loop-found-preserved : goal.loop-found-preserved
-loop-found-preserved c =
-    let seen : Counting c.args.c c.args.b.now (At c.in-At.j) c.loop-found.n =
-    let l = c.loop-found in
-    subst (λ (f : FoundPair). Counting c.args.c c.args.b.now f l.n) c.in-At.is l.invariant in
-    counting_next seen c.find_pair-found-in-At.ensures
+pub loop-j-preserved : goal.loop-j-preserved
+loop-j-preserved c =
+    let more : c.loop-j.j + 1 < u32 c.args.b.now 4 = omega (arith, c.loop-j-test.true, c.saturating_sub-j-end.ensures, c.get_u32-n.ensures) in
+    let r = c.loop-j.invariant in
+    elim c.if-opens_at.branch [
+      | then-opens_at w ↦ rw w.pairs-is (counting_next r more (sym w.if-opens_at.true ∙ c.opens_at.ensures))
+      | else-opens_at w ↦ rw w.pairs-is (counting_passed r more (sym w.if-opens_at.false ∙ c.opens_at.ensures))
+    ]
 
 pub returns : goal.returns
-returns c = counting_last c.loop-found.invariant c.in_default.is
+returns c = counting_last c.loop-j.invariant (omega (arith, c.loop-j-test.false, c.saturating_sub-j-end.ensures, c.get_u32-n.ensures))

@@ -1,60 +1,47 @@
 -- The refusals one after another, then the name. Assumes nothing.
-use Prim.Native.Nat.{◌<◌, ◌≤◌}
+use Prim.Native.Nat.{◌<◌}
 use native.Mathlib.Omega.{arith}
 use mathlib.Core.Path.{◌≡◌, ◌∙◌, sym, ap}
 use mathlib.Core.Bool.{true}
-use lib.ListN.{length}
-use lib.IntN.{nat_abs}
-use mir.Syntax.{w64}
-use mir.Val.{SFits}
-use Rattle.le.proofs.Signs.{back, plain}
-use Rattle.sheet.specs.Sheet.{name_limit}
-use Rattle.table.specs.Layout.{table_length, counts_in}
+use Rattle.std.proofs.lemmas.Result.{err_from_is_err_and}
+use Rattle.table.specs.Layout.{counts_in}
 use Rattle.table.specs.Table.{is_table}
-use Rattle.row_names.proofs.Asked.{other_length, short_buffer, not_table, below-first, past-last, name-put}
+use Rattle.row.proofs.Index.{index_below, index_is}
+use Rattle.row_names.proofs.Asked.{other_length, short_buffer, not_table, no_row, past-last, name-put}
 use Rattle.row_names.proofs.event_name.Goals as goal
+use Rattle.row_names.proofs.event_name.Goals.{then-table-ne-TABLE_LENGTH-via-then-table-ne-TABLE_LENGTH, then-table-ne-TABLE_LENGTH-via-else-table-ne-TABLE_LENGTH+then-buffer-lt-NAME_LIMIT}
 
 pub returns-then-table-ne-TABLE_LENGTH : goal.returns-then-table-ne-TABLE_LENGTH
-returns-then-table-ne-TABLE_LENGTH c = other_length _ _ _ c.if-table-ne-TABLE_LENGTH.true
-
-pub returns-then-buffer-lt-NAME_LIMIT : goal.returns-then-buffer-lt-NAME_LIMIT
-returns-then-buffer-lt-NAME_LIMIT c = short_buffer _ _ _ c.if-table-ne-TABLE_LENGTH.false c.if-buffer-lt-NAME_LIMIT.true
+returns-then-table-ne-TABLE_LENGTH c =
+    elim c.then-table-ne-TABLE_LENGTH.branch [
+      | then-table-ne-TABLE_LENGTH-via-then-table-ne-TABLE_LENGTH w ↦ other_length _ _ _ w.if-table-ne-TABLE_LENGTH.true
+      | then-table-ne-TABLE_LENGTH-via-else-table-ne-TABLE_LENGTH+then-buffer-lt-NAME_LIMIT w ↦ short_buffer _ _ _ w.if-table-ne-TABLE_LENGTH.false w.if-buffer-lt-NAME_LIMIT.true
+    ]
 
 pub returns-then-not-is_table : goal.returns-then-not-is_table
 returns-then-not-is_table c = not_table _ _ _ c.if-table-ne-TABLE_LENGTH.false c.if-buffer-lt-NAME_LIMIT.false (sym c.is_table.ensures ∙ c.if-not-is_table.true)
 
-pub returns-then-i-lt0 : goal.returns-then-i-lt0
-returns-then-i-lt0 c =
-    let sized : length c.args.table.now ≡ table_length = c.if-table-ne-TABLE_LENGTH.false in
-    let roomy : name_limit ≤ length c.args.buffer.now = c.if-buffer-lt-NAME_LIMIT.false in
+pub returns-in_err-k : goal.returns-in_err-k
+returns-in_err-k c =
+    let p = err_from_is_err_and c.from_residual.result c.from_residual.ensures.1 in
     let accepted : is_table c.args.table.now ≡ true = sym c.is_table.ensures ∙ c.if-not-is_table.false in
-    let fits : SFits w64 c.args.i = c.ranges.i in
-    below-first _ _ _ sized roomy accepted fits c.if-i-lt0.true
+    rw (p.1, p.2)
+    (no_row _ _ _ c.if-table-ne-TABLE_LENGTH.false c.if-buffer-lt-NAME_LIMIT.false accepted (index_below _ c.ranges.i (sym c.in_err-k.was ∙ c.index_of.ensures)))
 
-pub overflow_cast-k : goal.overflow_cast-k
-overflow_cast-k c =
-    let fits : SFits w64 c.args.i = c.ranges.i in
-    (plain w64 _ fits c.if-i-lt0.false).0
-
-pub returns-then-c-k : goal.returns-then-c-k
-returns-then-c-k c =
-    let sized : length c.args.table.now ≡ table_length = c.if-table-ne-TABLE_LENGTH.false in
-    let roomy : name_limit ≤ length c.args.buffer.now = c.if-buffer-lt-NAME_LIMIT.false in
+pub returns-then-read_counts-k : goal.returns-then-read_counts-k
+returns-then-read_counts-k c =
     let accepted : is_table c.args.table.now ≡ true = sym c.is_table.ensures ∙ c.if-not-is_table.false in
-    let fits : SFits w64 c.args.i = c.ranges.i in
-    past-last _ _ _ sized roomy accepted fits c.if-i-lt0.false (omega (arith, c.if-c-k.true, ap (λ k. k.events) c.read_counts-c.ensures))
+    past-last _ _ _ c.if-table-ne-TABLE_LENGTH.false c.if-buffer-lt-NAME_LIMIT.false accepted (index_is _ c.ranges.i (sym c.in_ok-k.was ∙ c.index_of.ensures))
+    (omega (arith, c.if-read_counts-k.true, ap (λ k. k.events) c.read_counts.ensures))
 
 pub event_text-name-requires : goal.event_text-name-requires
-event_text-name-requires c =
-    let accepted : is_table c.args.table.now ≡ true = sym c.is_table.ensures ∙ c.if-not-is_table.false in
-    let below : nat_abs (back w64 c.args.i) < (counts_in c.args.table.now).events = omega (arith, c.if-c-k.false, ap (λ k. k.events) c.read_counts-c.ensures) in
-    record { t_value = accepted; i_bound = below }
+event_text-name-requires c = record {
+  t_value = sym c.is_table.ensures ∙ c.if-not-is_table.false;
+  i_bound = omega (arith, c.if-read_counts-k.false, ap (λ k. k.events) c.read_counts.ensures);
+}
 
 pub returns : goal.returns
 returns c =
-    let sized : length c.args.table.now ≡ table_length = c.if-table-ne-TABLE_LENGTH.false in
-    let roomy : name_limit ≤ length c.args.buffer.now = c.if-buffer-lt-NAME_LIMIT.false in
     let accepted : is_table c.args.table.now ≡ true = sym c.is_table.ensures ∙ c.if-not-is_table.false in
-    let fits : SFits w64 c.args.i = c.ranges.i in
-    let below : nat_abs (back w64 c.args.i) < (counts_in c.args.table.now).events = omega (arith, c.if-c-k.false, ap (λ k. k.events) c.read_counts-c.ensures) in
-    name-put _ _ _ sized roomy accepted fits c.if-i-lt0.false below c.event_text-name.ensures.0 c.put_part.ensures
+    let below : c.in_ok-k.k < (counts_in c.args.table.now).events = omega (arith, c.if-read_counts-k.false, ap (λ k. k.events) c.read_counts.ensures) in
+    name-put _ _ _ c.if-table-ne-TABLE_LENGTH.false c.if-buffer-lt-NAME_LIMIT.false accepted (index_is _ c.ranges.i (sym c.in_ok-k.was ∙ c.index_of.ensures)) below c.event_text-name.ensures.0 c.put_part.ensures

@@ -1,10 +1,6 @@
--- What the loops keep.
-use Prim.Native.Nat.{◌-◌}
+-- What the loop keeps.
 use Rattle.row_pairs.proofs.Find.{Seeking}
 use Rattle.row_pairs.proofs.find_pair.Given as goal
 
 abbrev pub invariant-loop-j : goal.invariant-loop-j
-invariant-loop-j l = Seeking l.c l.b l.from l.i l.at l.left l.j
-
-abbrev pub decreases-loop-j : goal.decreases-loop-j
-decreases-loop-j l = l.n - l.j
+invariant-loop-j l = Seeking l.c l.b l.i l.left l.j

@@ -1,65 +1,27 @@
--- The sizes, the full check, then the row. Assumes nothing.
-use mathlib.Core.Path.{◌≡◌, subst}
+-- The buffer's length, the opening of the book, then the row. Assumes nothing.
+use mathlib.Core.Path.{subst}
+use Rattle.std.proofs.lemmas.Result.{err_from_is_err_and}
 use Rattle.text.specs.Answer.{given}
-use Rattle.book_header.specs.Size.{SizedAs}
-use Rattle.book_header.specs.declared.Sized.TheVariants.{Bars}
-use Rattle.book_check.specs.Read.{CheckedAs}
-use Rattle.book_check.specs.declared.Checked.{Checked}
 use Rattle.row.proofs.Index.{index_back}
 use Rattle.row_pairs.specs.Row.{Answered}
 use Rattle.row_pairs.proofs.Records.{traded}
-use Rattle.row_pairs.proofs.Answers.{wrong_length, short_buffer, not_table, not-book, passed}
+use Rattle.row_pairs.proofs.Answers.{short_buffer, no_book, passed}
 use Rattle.row_pairs.proofs.pair_row.Goals as goal
 
-pub returns-in_default : goal.returns-in_default
-returns-in_default c =
-    let a = c.args in
-    wrong_length _ _ _ _ (subst (SizedAs a.table.now a.b.now) c.in_default.is c.size_of.ensures)
-
 pub returns-then-buffer-lt-ROW_BUFFER : goal.returns-then-buffer-lt-ROW_BUFFER
-returns-then-buffer-lt-ROW_BUFFER c =
-    let sized : SizedAs c.args.table.now c.args.b.now (Bars c.in-Bars.c) = subst (SizedAs c.args.table.now c.args.b.now) c.in-Bars.is c.size_of.ensures in
-    short_buffer _ _ _ _ sized c.if-buffer-lt-ROW_BUFFER.true
+returns-then-buffer-lt-ROW_BUFFER c = short_buffer _ _ _ _ c.if-buffer-lt-ROW_BUFFER.true
 
-pub check_book-requires : goal.check_book-requires
-check_book-requires c =
-    let sized : SizedAs c.args.table.now c.args.b.now (Bars c.in-Bars.c) = subst (SizedAs c.args.table.now c.args.b.now) c.in-Bars.is c.size_of.ensures in
-    sized.ok.1
+pub returns-in_err-c : goal.returns-in_err-c
+returns-in_err-c c =
+    let p = err_from_is_err_and c.from_residual.result c.from_residual.ensures.1 in
+    rw (p.1, p.2) (no_book _ _ _ _ c.if-buffer-lt-ROW_BUFFER.false c.in_err-c.ensures)
 
 pub row_at-requires : goal.row_at-requires
 row_at-requires c =
-    let checked : (q : Checked) → c.check_book.result ≡ q
-    → CheckedAs c.args.table.now c.in-Bars.c c.args.b.now q = λ q e.
-    let a = c.args in
-    subst (CheckedAs a.table.now c.in-Bars.c a.b.now) e c.check_book.ensures in
-    let sized : SizedAs c.args.table.now c.args.b.now (Bars c.in-Bars.c) = subst (SizedAs c.args.table.now c.args.b.now) c.in-Bars.is c.size_of.ensures in
-    let k = (checked _ c.in-Passed.is).ok in
-    record { t_value = k.0; traded = traded _ _ _ sized.ok.1 k.1; row_buffer_in_bounds = c.if-buffer-lt-ROW_BUFFER.false }
+    let k = c.in_ok-c.ensures.ok in
+    record { t_value = k.table; traded = traded _ _ _ k.size k.book; row_buffer_in_bounds = c.if-buffer-lt-ROW_BUFFER.false }
 
-pub returns-in-NotTable : goal.returns-in-NotTable
-returns-in-NotTable c =
-    let sized : SizedAs c.args.table.now c.args.b.now (Bars c.in-Bars.c) = subst (SizedAs c.args.table.now c.args.b.now) c.in-Bars.is c.size_of.ensures in
-    let checked : (q : Checked) → c.check_book.result ≡ q
-    → CheckedAs c.args.table.now c.in-Bars.c c.args.b.now q = λ q e.
-    let a = c.args in
-    subst (CheckedAs a.table.now c.in-Bars.c a.b.now) e c.check_book.ensures in
-    not_table _ _ _ _ sized c.if-buffer-lt-ROW_BUFFER.false (checked _ c.in-NotTable.is)
-
-pub returns-in-NotBook : goal.returns-in-NotBook
-returns-in-NotBook c =
-    let sized : SizedAs c.args.table.now c.args.b.now (Bars c.in-Bars.c) = subst (SizedAs c.args.table.now c.args.b.now) c.in-Bars.is c.size_of.ensures in
-    let checked : (q : Checked) → c.check_book.result ≡ q
-    → CheckedAs c.args.table.now c.in-Bars.c c.args.b.now q = λ q e.
-    let a = c.args in
-    subst (CheckedAs a.table.now c.in-Bars.c a.b.now) e c.check_book.ensures in
-    not-book _ _ _ _ sized c.if-buffer-lt-ROW_BUFFER.false (checked _ c.in-NotBook.is)
-
-pub returns-in-Passed : goal.returns-in-Passed
-returns-in-Passed c =
-    let sized : SizedAs c.args.table.now c.args.b.now (Bars c.in-Bars.c) = subst (SizedAs c.args.table.now c.args.b.now) c.in-Bars.is c.size_of.ensures in
-    let checked : (q : Checked) → c.check_book.result ≡ q
-    → CheckedAs c.args.table.now c.in-Bars.c c.args.b.now q = λ q e.
-    let a = c.args in
-    subst (CheckedAs a.table.now c.in-Bars.c a.b.now) e c.check_book.ensures in
-    passed _ _ _ _ sized c.if-buffer-lt-ROW_BUFFER.false (checked _ c.in-Passed.is)
+pub returns : goal.returns
+returns c =
+    passed _ _ _ _ c.if-buffer-lt-ROW_BUFFER.false c.in_ok-c.ensures
     (subst (λ o. Answered (given 15 o) c.args.buffer.now c.row_at.new.buffer c.row_at.result) (index_back _ c.args.i c.ranges.i) c.row_at.ensures)

@@ -2,6 +2,7 @@
 use Prim.Native.Nat.{◌-◌}
 use native.Mathlib.Omega.{arith}
 use mathlib.Core.Path.{refl, ◌∙◌}
+use Rattle.std.proofs.lemmas.Result.{err_from_is_err_and}
 use Rattle.run_feed.proofs.Lines.{waiting_ready, read-cut, all-fed, looping_next, refused_with}
 use Rattle.run_feed.proofs.feed_lines.Goals as goal
 
@@ -26,18 +27,20 @@ returns-then-end-n c = read-cut c.loop-i.invariant.running c.find-end.ensures c.
 pub take_line-requires : goal.take_line-requires
 take_line-requires c = record { running = c.loop-i.invariant.running; first_at = c.find-end.ensures; to_in_bounds = omega (arith, c.if-end-n.false, c.find-end.ensures.high) }
 
-pub shape_of-book-in-Refused : goal.shape_of-book-in-Refused
-shape_of-book-in-Refused c = c.take_line.auto.book ∙ c.loop-i.invariant.book
+pub shape_of-book-in_err-p : goal.shape_of-book-in_err-p
+shape_of-book-in_err-p c = c.take_line.auto.book ∙ c.loop-i.invariant.book
 
-pub shape_of-signals-in-Refused : goal.shape_of-signals-in-Refused
-shape_of-signals-in-Refused c = c.take_line.auto.signals ∙ c.loop-i.invariant.notes
+pub shape_of-signals-in_err-p : goal.shape_of-signals-in_err-p
+shape_of-signals-in_err-p c = c.take_line.auto.signals ∙ c.loop-i.invariant.notes
 
-pub shape_of-out-in-Refused : goal.shape_of-out-in-Refused
-shape_of-out-in-Refused c = c.take_line.auto.out ∙ c.loop-i.invariant.paper
+pub shape_of-out-in_err-p : goal.shape_of-out-in_err-p
+shape_of-out-in_err-p c = c.take_line.auto.out ∙ c.loop-i.invariant.paper
 
-pub returns-in-Refused : goal.returns-in-Refused
-returns-in-Refused c =
-    refused_with c.args.s.now c.args.table.now c.take_line.new.book c.take_line.new.signals c.take_line.new.out c.find-end.result c.take_line.result _ c.take_line.ensures c.in-Refused.is
+pub returns-in_err-p : goal.returns-in_err-p
+returns-in_err-p c =
+    let p = err_from_is_err_and c.from_residual.result c.from_residual.ensures.1 in
+    rw (p.1, p.2)
+    (refused_with c.args.s.now c.args.table.now c.take_line.new.book c.take_line.new.signals c.take_line.new.out c.find-end.result c.take_line.result _ c.take_line.ensures c.in_err-p.was)
 
 pub overflow_add-i : goal.overflow_add-i
 overflow_add-i c = omega (arith, c.find-end.ensures.high)
@@ -47,7 +50,7 @@ loop-i-smaller c = omega (arith, c.find-end.ensures.low, c.loop-i-test.true)
 
 pub loop-i-preserved : goal.loop-i-preserved
 loop-i-preserved c =
-    looping_next c.loop-i.invariant c.take_line.new.book c.take_line.new.signals c.take_line.new.out c.find-end.result c.take_line.result c.in-Next.q c.take_line.ensures c.in-Next.is c.take_line.auto.book c.take_line.auto.signals c.take_line.auto.out
+    looping_next c.loop-i.invariant c.take_line.new.book c.take_line.new.signals c.take_line.new.out c.find-end.result c.take_line.result _ c.take_line.ensures c.in_ok-p.was c.take_line.auto.book c.take_line.auto.signals c.take_line.auto.out
 
 pub feed_waiting-requires : goal.feed_waiting-requires
 feed_waiting-requires c =

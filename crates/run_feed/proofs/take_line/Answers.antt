@@ -1,14 +1,24 @@
 -- A line by what it says. Assumes nothing.
 use mathlib.Core.List.{List}
-use mathlib.Core.Path.{◌≡◌, subst}
+use mathlib.Core.Path.{◌≡◌, ◌∙◌, ap, subst}
 use Prim.Native.Nat.{ℕ}
+use Rattle.std.specs.Prelude.{Result, Ok}
+use Rattle.std.proofs.lemmas.Result.{err_from_is_err_and}
 use Rattle.run_input.specs.Lines.{LineAs}
 use Rattle.run_input.specs.declared.InputLine.{InputLine}
-use Rattle.run_feed.proofs.Lines.{waiting_ready, signal_ready, took_bar, took_added, took_malformed, took_number}
+use Rattle.run_input.specs.declared.InputLine.TheVariants as InputLine
+use Rattle.run_input.specs.declared.InputError.{InputError}
+use Rattle.run_feed.proofs.Lines.{waiting_ready, signal_ready, took_bar, took_added, took_refused}
 use Rattle.run_feed.proofs.take_line.Goals as goal
 
-told : {l : List ℕ} {r q : InputLine} → r ≡ q → LineAs l r → LineAs l q
+told : {l : List ℕ} {r q : Result InputLine InputError} → r ≡ q → LineAs l r → LineAs l q
 told {l} e a = subst (LineAs l) e a
+
+pub returns-in_err-b : goal.returns-in_err-b
+returns-in_err-b c =
+    let p = err_from_is_err_and c.from_residual.result c.from_residual.ensures.1 in
+    rw (p.1, p.2)
+    (took_refused c.requires.running c.requires.first_at c.requires.to_in_bounds _ (told c.in_err-b.was c.read_line.ensures))
 
 pub feed_waiting-at-requires : goal.feed_waiting-at-requires
 feed_waiting-at-requires c =
@@ -17,21 +27,16 @@ feed_waiting-at-requires c =
 
 pub add_signal-requires : goal.add_signal-requires
 add_signal-requires c =
-    let all = signal_ready c.requires.running c.requires.first_at c.requires.to_in_bounds (told c.in-Signal.is c.read_line.ensures) in
+    let line = told (c.in_ok-b.was ∙ ap Ok c.in-Signal.is) c.read_line.ensures in
+    let all = signal_ready c.requires.running c.requires.first_at c.requires.to_in_bounds line in
     record { from_bound = all.0; to_bound = all.1 }
 
 pub returns-in-Bar : goal.returns-in-Bar
 returns-in-Bar c =
-    took_bar c.requires.running c.requires.first_at c.requires.to_in_bounds c.in-Bar.b (told c.in-Bar.is c.read_line.ensures) _ _ _ c.feed_waiting-at.ensures c.feed_waiting-at.auto.out
+    let line = told (c.in_ok-b.was ∙ ap Ok c.in-Bar.is) c.read_line.ensures in
+    took_bar c.requires.running c.requires.first_at c.requires.to_in_bounds c.in-Bar.b line _ _ _ c.feed_waiting-at.ensures c.feed_waiting-at.auto.out
 
 pub returns-in-Signal : goal.returns-in-Signal
 returns-in-Signal c =
-    took_added c.requires.running c.requires.first_at c.requires.to_in_bounds (told c.in-Signal.is c.read_line.ensures) c.add_signal.new.signals c.add_signal.result c.add_signal.ensures
-
-pub returns-in-Malformed : goal.returns-in-Malformed
-returns-in-Malformed c =
-    took_malformed c.requires.running c.requires.first_at c.requires.to_in_bounds (told c.in-Malformed.is c.read_line.ensures)
-
-pub returns-in-BadNumber : goal.returns-in-BadNumber
-returns-in-BadNumber c =
-    took_number c.requires.running c.requires.first_at c.requires.to_in_bounds (told c.in-BadNumber.is c.read_line.ensures)
+    let line = told (c.in_ok-b.was ∙ ap Ok c.in-Signal.is) c.read_line.ensures in
+    took_added c.requires.running c.requires.first_at c.requires.to_in_bounds line c.add_signal.new.signals c.add_signal.result c.add_signal.ensures

@@ -1,32 +1,15 @@
 -- The magnitude in decimal, behind a `-` where the number is below 0. Assumes nothing.
-use mir.Syntax.{w64}
-use Rattle.le.proofs.Signs.{plain}
-use Rattle.run_fields.proofs.Signed.{Below, below, below_put, above_put}
+use Prim.Native.Nat.{◌^◌, ◌<◌}
+use native.Mathlib.Omega.{arith}
+use Rattle.run_fields.proofs.Signed.{below_put, above_put}
 use Rattle.run_fields.proofs.put_integer.Goals as goal
-
-pub overflow_sub-v : goal.overflow_sub-v
-overflow_sub-v c =
-    let low : Below c.args.v = below c.args.v c.ranges.v c.if-v-lt0.true in
-    low.0
-
-pub overflow_cast-v : goal.overflow_cast-v
-overflow_cast-v c =
-    let low : Below c.args.v = below c.args.v c.ranges.v c.if-v-lt0.true in
-    low.1
-
-pub overflow_add-v : goal.overflow_add-v
-overflow_add-v c =
-    let low : Below c.args.v = below c.args.v c.ranges.v c.if-v-lt0.true in
-    record { fits = low.2 }
-
-pub returns-then-v-lt0 : goal.returns-then-v-lt0
-returns-then-v-lt0 c =
-    below_put c.args.v c.ranges.v c.if-v-lt0.true c.put_byte-digits.ensures c.put_decimal.ensures
-
-pub overflow_cast-v-2 : goal.overflow_cast-v-2
-overflow_cast-v-2 c =
-    (plain w64 c.args.v c.ranges.v c.if-v-lt0.false).0
+use Rattle.run_fields.proofs.put_integer.Goals.{then-v-lt0, else-v-lt0}
 
 pub returns : goal.returns
 returns c =
-    above_put c.args.v c.ranges.v c.if-v-lt0.false c.put_decimal-2.ensures
+    let few : c.unsigned_abs.result < 2 ^ 64 = omega (arith, c.unsigned_abs.ensures.bound) in
+    elim c.if-v-lt0.branch [
+      | then-v-lt0 w ↦
+          below_put c.args.v c.ranges.v few c.unsigned_abs.ensures.value w.if-v-lt0.true w.put_byte-digits.ensures (rw (w.digits-is, w.out-is) at c.put_decimal.ensures)
+      | else-v-lt0 w ↦ above_put c.args.v c.ranges.v few c.unsigned_abs.ensures.value w.if-v-lt0.false (rw (w.digits-is, w.out-is) at c.put_decimal.ensures)
+    ]

@@ -3,8 +3,8 @@ use mathlib.Core.Path.{◌∙◌, sym}
 use Rattle.le.proofs.Reals.{value-is, nan_is}
 use Rattle.run_input.proofs.double_of.Goals as goal
 
-pub returns-in-Value : goal.returns-in-Value
-returns-in-Value c = value-is _ (sym c.real_of.ensures ∙ c.in-Value.is)
+pub returns-in-Some : goal.returns-in-Some
+returns-in-Some c = value-is _ (sym c.real_of.ensures ∙ c.in-Some.is)
 
-pub returns-in-Nan : goal.returns-in-Nan
-returns-in-Nan c = nan_is _ (sym c.real_of.ensures ∙ c.in-Nan.is)
+pub returns-in-None : goal.returns-in-None
+returns-in-None c = nan_is _ (sym c.real_of.ensures ∙ c.in-None.is)

@@ -1,5 +1,4 @@
 -- `Seeking` is the invariant: the lines read so far, none of which is `-`. Assumes nothing.
-use Prim.Native.Nat.{◌-◌}
 use mathlib.Core.Path.{◌∙◌, sym}
 use Rattle.run_input.proofs.Seek.{seeking_first, seeking_last, seeking_cut, seeking_found, seeking_more}
 use Rattle.run_input.proofs.find_dash.Goals as goal

@@ -27,19 +27,19 @@ add_hold-requires c =
 pub overflow_add-i : goal.overflow_add-i
 overflow_add-i c =
     let next : let a = c.args in let l = c.loop-r in
-    Listed (hold_rows (holds_of a.book.now)) hold_line hold_room a.out.now c.add_hold.new.out a.from (l.i + 1) c.in-Next.r = listed_next c.loop-r.invariant _ c.add_hold.ensures c.in-Next.is in
+    Listed (hold_rows (holds_of a.book.now)) hold_line hold_room a.out.now c.add_hold.new.out a.from (l.i + 1) c.in-Some.r = listed_next c.loop-r.invariant _ c.add_hold.ensures c.in-Some.is in
     omega (arith, next.count, holds-within c.requires.booked)
 
 pub loop-r-smaller : goal.loop-r-smaller
 loop-r-smaller c =
     let next : let a = c.args in let l = c.loop-r in
-    Listed (hold_rows (holds_of a.book.now)) hold_line hold_room a.out.now c.add_hold.new.out a.from (l.i + 1) c.in-Next.r = listed_next c.loop-r.invariant _ c.add_hold.ensures c.in-Next.is in
+    Listed (hold_rows (holds_of a.book.now)) hold_line hold_room a.out.now c.add_hold.new.out a.from (l.i + 1) c.in-Some.r = listed_next c.loop-r.invariant _ c.add_hold.ensures c.in-Some.is in
     omega (arith, next.count)
 
 pub loop-r-preserved : goal.loop-r-preserved
 loop-r-preserved c =
     let next : let a = c.args in let l = c.loop-r in
-    Listed (hold_rows (holds_of a.book.now)) hold_line hold_room a.out.now c.add_hold.new.out a.from (l.i + 1) c.in-Next.r = listed_next c.loop-r.invariant _ c.add_hold.ensures c.in-Next.is in
+    Listed (hold_rows (holds_of a.book.now)) hold_line hold_room a.out.now c.add_hold.new.out a.from (l.i + 1) c.in-Some.r = listed_next c.loop-r.invariant _ c.add_hold.ensures c.in-Some.is in
     next
 
 pub shape_of-out : goal.shape_of-out

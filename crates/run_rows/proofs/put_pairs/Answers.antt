@@ -25,19 +25,19 @@ add_pair-requires c =
 pub overflow_add-i : goal.overflow_add-i
 overflow_add-i c =
     let next : let a = c.args in let l = c.loop-r in
-    Listed (pair_rows a.table.now a.book.now) pair_line pair_room a.out.now c.add_pair.new.out a.from (l.i + 1) c.in-Next.r = listed_next c.loop-r.invariant _ c.add_pair.ensures c.in-Next.is in
+    Listed (pair_rows a.table.now a.book.now) pair_line pair_room a.out.now c.add_pair.new.out a.from (l.i + 1) c.in-Some.r = listed_next c.loop-r.invariant _ c.add_pair.ensures c.in-Some.is in
     omega (arith, next.count, pairs_within c.requires.booked)
 
 pub loop-r-smaller : goal.loop-r-smaller
 loop-r-smaller c =
     let next : let a = c.args in let l = c.loop-r in
-    Listed (pair_rows a.table.now a.book.now) pair_line pair_room a.out.now c.add_pair.new.out a.from (l.i + 1) c.in-Next.r = listed_next c.loop-r.invariant _ c.add_pair.ensures c.in-Next.is in
+    Listed (pair_rows a.table.now a.book.now) pair_line pair_room a.out.now c.add_pair.new.out a.from (l.i + 1) c.in-Some.r = listed_next c.loop-r.invariant _ c.add_pair.ensures c.in-Some.is in
     omega (arith, next.count)
 
 pub loop-r-preserved : goal.loop-r-preserved
 loop-r-preserved c =
     let next : let a = c.args in let l = c.loop-r in
-    Listed (pair_rows a.table.now a.book.now) pair_line pair_room a.out.now c.add_pair.new.out a.from (l.i + 1) c.in-Next.r = listed_next c.loop-r.invariant _ c.add_pair.ensures c.in-Next.is in
+    Listed (pair_rows a.table.now a.book.now) pair_line pair_room a.out.now c.add_pair.new.out a.from (l.i + 1) c.in-Some.r = listed_next c.loop-r.invariant _ c.add_pair.ensures c.in-Some.is in
     next
 
 pub shape_of-out : goal.shape_of-out

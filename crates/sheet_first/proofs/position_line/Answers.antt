@@ -1,112 +1,58 @@
 -- Seven fields or eight, the tag P, a name and a symbol that fit, then the numbers. Assumes nothing.
-use Prim.Native.Nat.{◌+◌, ◌≤◌}
 use native.Mathlib.Omega.{arith}
-use lib.ListN.{length}
-use Rattle.sheet.specs.Places.{fields_of}
-use Rattle.text.proofs.Cut.{cut-rest}
-use Rattle.sheet.proofs.Fields.{Field, field}
-use Rattle.sheet_first.proofs.FirstLine.{first_count, first-room, first_rest, first-other, first-long, six_left, name-long, symbol-long, names-are, position_is}
+use Rattle.sheet_first.proofs.FirstLine.{first_count, first-room, first_rest, first-other, first-long, behind-name, name-long, symbol-long, names-are, numbers-least, numbers-most, position_is}
 use Rattle.sheet_first.proofs.position_line.Goals as goal
+use Rattle.sheet_first.proofs.position_line.Goals.{then-s-ne80-via-then-s-ne80, then-s-ne80-via-else-s-ne80+then-s-ne-PIPE}
 
 pub returns-then-fields-lt7 : goal.returns-then-fields-lt7
-returns-then-fields-lt7 c =
-    let n = c.count_parts-fields.ensures in
-    first_count c.requires (λ e. omega (arith, n, c.if-fields-lt7.true)) (λ e. omega (arith, n, c.if-fields-lt7.true))
-
-pub returns-then-fields-gt8 : goal.returns-then-fields-gt8
-returns-then-fields-gt8 c =
-    let n = c.count_parts-fields.ensures in
-    first_count c.requires (λ e. omega (arith, n, c.if-fields-gt8.true)) (λ e. omega (arith, n, c.if-fields-gt8.true))
+returns-then-fields-lt7 c = first_count c.requires c.count_parts-fields.ensures c.then-fields-lt7.either
 
 pub bounds-s-0 : goal.bounds-s-0
-bounds-s-0 c =
-    let low : let a = c.args in 7 ≤ length (fields_of a.s.now 0 a.to) = omega (arith, c.count_parts-fields.ensures, c.if-fields-lt7.false) in
-    let high : let a = c.args in length (fields_of a.s.now 0 a.to) ≤ 8 = omega (arith, c.count_parts-fields.ensures, c.if-fields-gt8.false) in
-    let p = c.requires in
-    omega (arith, first-room p low high, p.within)
+bounds-s-0 c = omega (arith, first-room c.requires c.count_parts-fields.ensures c.if-fields-lt7.false c.if-fields-gt8.false, c.requires.within)
+
+pub bounds-s-1 : goal.bounds-s-1
+bounds-s-1 c = omega (arith, first-room c.requires c.count_parts-fields.ensures c.if-fields-lt7.false c.if-fields-gt8.false, c.requires.within)
 
 pub returns-then-s-ne80 : goal.returns-then-s-ne80
 returns-then-s-ne80 c =
-    let low : let a = c.args in 7 ≤ length (fields_of a.s.now 0 a.to) = omega (arith, c.count_parts-fields.ensures, c.if-fields-lt7.false) in
-    let high : let a = c.args in length (fields_of a.s.now 0 a.to) ≤ 8 = omega (arith, c.count_parts-fields.ensures, c.if-fields-gt8.false) in
-    first-other c.requires low high c.if-s-ne80.true
-
-pub bounds-s-1 : goal.bounds-s-1
-bounds-s-1 c =
-    let low : let a = c.args in 7 ≤ length (fields_of a.s.now 0 a.to) = omega (arith, c.count_parts-fields.ensures, c.if-fields-lt7.false) in
-    let high : let a = c.args in length (fields_of a.s.now 0 a.to) ≤ 8 = omega (arith, c.count_parts-fields.ensures, c.if-fields-gt8.false) in
-    let p = c.requires in
-    omega (arith, first-room p low high, p.within)
-
-pub returns-then-s-ne-PIPE : goal.returns-then-s-ne-PIPE
-returns-then-s-ne-PIPE c =
-    let low : let a = c.args in 7 ≤ length (fields_of a.s.now 0 a.to) = omega (arith, c.count_parts-fields.ensures, c.if-fields-lt7.false) in
-    let high : let a = c.args in length (fields_of a.s.now 0 a.to) ≤ 8 = omega (arith, c.count_parts-fields.ensures, c.if-fields-gt8.false) in
-    first-long c.requires low high c.if-s-ne-PIPE.true
+    let n = c.count_parts-fields.ensures in
+    elim c.then-s-ne80.branch [
+      | then-s-ne80-via-then-s-ne80 w ↦ first-other c.requires n c.if-fields-lt7.false c.if-fields-gt8.false w.if-s-ne80.true
+      | then-s-ne80-via-else-s-ne80+then-s-ne-PIPE w ↦ first-long c.requires n c.if-fields-lt7.false c.if-fields-gt8.false w.if-s-ne-PIPE.true
+    ]
 
 pub find-name-requires : goal.find-name-requires
-find-name-requires c =
-    let low : let a = c.args in 7 ≤ length (fields_of a.s.now 0 a.to) = omega (arith, c.count_parts-fields.ensures, c.if-fields-lt7.false) in
-    let high : let a = c.args in length (fields_of a.s.now 0 a.to) ≤ 8 = omega (arith, c.count_parts-fields.ensures, c.if-fields-gt8.false) in
-    first_rest c.requires low high
+find-name-requires c = first_rest c.requires c.count_parts-fields.ensures c.if-fields-lt7.false c.if-fields-gt8.false
 
 pub returns-then-name-gt-NAME_LIMIT : goal.returns-then-name-gt-NAME_LIMIT
 returns-then-name-gt-NAME_LIMIT c =
-    let low : let a = c.args in 7 ≤ length (fields_of a.s.now 0 a.to) = omega (arith, c.count_parts-fields.ensures, c.if-fields-lt7.false) in
-    let high : let a = c.args in length (fields_of a.s.now 0 a.to) ≤ 8 = omega (arith, c.count_parts-fields.ensures, c.if-fields-gt8.false) in
-    let cut-name : let a = c.args in Field a.s.now 2 a.to c.find-name.result =
-    let p = c.requires in
-    field (first_rest p low high) c.find-name.ensures (omega (arith, low, six_left p low high c.if-s-ne80.false c.if-s-ne-PIPE.false)) in
-    name-long c.requires low high c.if-s-ne80.false c.if-s-ne-PIPE.false cut-name c.if-name-gt-NAME_LIMIT.true
+    name-long c.requires c.count_parts-fields.ensures c.if-fields-lt7.false c.if-fields-gt8.false c.if-s-ne80.false c.if-s-ne-PIPE.false c.find-name.ensures
+    c.if-name-gt-NAME_LIMIT.true
 
 pub find-symbol-requires : goal.find-symbol-requires
-find-symbol-requires c =
-    let low : let a = c.args in 7 ≤ length (fields_of a.s.now 0 a.to) = omega (arith, c.count_parts-fields.ensures, c.if-fields-lt7.false) in
-    let high : let a = c.args in length (fields_of a.s.now 0 a.to) ≤ 8 = omega (arith, c.count_parts-fields.ensures, c.if-fields-gt8.false) in
-    let cut-name : let a = c.args in Field a.s.now 2 a.to c.find-name.result =
-    let p = c.requires in
-    field (first_rest p low high) c.find-name.ensures (omega (arith, low, six_left p low high c.if-s-ne80.false c.if-s-ne-PIPE.false)) in
-    cut-rest cut-name
+find-symbol-requires c = behind-name c.requires c.count_parts-fields.ensures c.if-fields-lt7.false c.if-fields-gt8.false c.if-s-ne80.false c.if-s-ne-PIPE.false c.find-name.ensures
 
 pub returns-then-symbol-name-gt-NAME_LIMIT : goal.returns-then-symbol-name-gt-NAME_LIMIT
 returns-then-symbol-name-gt-NAME_LIMIT c =
-    let low : let a = c.args in 7 ≤ length (fields_of a.s.now 0 a.to) = omega (arith, c.count_parts-fields.ensures, c.if-fields-lt7.false) in
-    let high : let a = c.args in length (fields_of a.s.now 0 a.to) ≤ 8 = omega (arith, c.count_parts-fields.ensures, c.if-fields-gt8.false) in
-    let cut-name : let a = c.args in Field a.s.now 2 a.to c.find-name.result =
-    let p = c.requires in
-    field (first_rest p low high) c.find-name.ensures (omega (arith, low, six_left p low high c.if-s-ne80.false c.if-s-ne-PIPE.false)) in
-    let cut-symbol : let a = c.args in
-    Field a.s.now (c.find-name.result + 1) a.to c.find-symbol.result =
-    let f = cut-name in
-    field (cut-rest f) c.find-symbol.ensures (omega (arith, f.left, low, six_left c.requires low high c.if-s-ne80.false c.if-s-ne-PIPE.false)) in
-    symbol-long c.requires low high c.if-s-ne80.false c.if-s-ne-PIPE.false cut-name c.if-name-gt-NAME_LIMIT.false cut-symbol c.if-symbol-name-gt-NAME_LIMIT.true
+    symbol-long c.requires c.count_parts-fields.ensures c.if-fields-lt7.false c.if-fields-gt8.false c.if-s-ne80.false c.if-s-ne-PIPE.false c.find-name.ensures
+    c.if-name-gt-NAME_LIMIT.false c.find-symbol.ensures c.if-symbol-name-gt-NAME_LIMIT.true
 
-pub settings-requires : goal.settings-requires
-settings-requires c =
-    let low : let a = c.args in 7 ≤ length (fields_of a.s.now 0 a.to) = omega (arith, c.count_parts-fields.ensures, c.if-fields-lt7.false) in
-    let high : let a = c.args in length (fields_of a.s.now 0 a.to) ≤ 8 = omega (arith, c.count_parts-fields.ensures, c.if-fields-gt8.false) in
-    let cut-name : let a = c.args in Field a.s.now 2 a.to c.find-name.result =
-    let p = c.requires in
-    field (first_rest p low high) c.find-name.ensures (omega (arith, low, six_left p low high c.if-s-ne80.false c.if-s-ne-PIPE.false)) in
-    let cut-symbol : let a = c.args in
-    Field a.s.now (c.find-name.result + 1) a.to c.find-symbol.result =
-    let f = cut-name in
-    field (cut-rest f) c.find-symbol.ensures (omega (arith, f.left, low, six_left c.requires low high c.if-s-ne80.false c.if-s-ne-PIPE.false)) in
-    let p = c.requires in
-    let six = six_left p low high c.if-s-ne80.false c.if-s-ne-PIPE.false in
-    let f = cut-name in
-    let g = cut-symbol in
-    record { names = names-are p low high c.if-s-ne80.false c.if-s-ne-PIPE.false f c.if-name-gt-NAME_LIMIT.false g c.if-symbol-name-gt-NAME_LIMIT.false; in_bounds_1 = omega (arith, low, six, f.left, g.left); in_bounds_2 = omega (arith, high, six, f.left, g.left) }
+pub settings-requires-clause-names : goal.settings-requires-clause-names
+settings-requires-clause-names c =
+    names-are c.requires c.count_parts-fields.ensures c.if-fields-lt7.false c.if-fields-gt8.false c.if-s-ne80.false c.if-s-ne-PIPE.false c.find-name.ensures
+    c.if-name-gt-NAME_LIMIT.false c.find-symbol.ensures c.if-symbol-name-gt-NAME_LIMIT.false
+
+pub settings-requires-clause-in_bounds_1 : goal.settings-requires-clause-in_bounds_1
+settings-requires-clause-in_bounds_1 c =
+    numbers-least c.requires c.count_parts-fields.ensures c.if-fields-lt7.false c.if-fields-gt8.false c.if-s-ne80.false c.if-s-ne-PIPE.false c.find-name.ensures
+    c.if-name-gt-NAME_LIMIT.false c.find-symbol.ensures c.if-symbol-name-gt-NAME_LIMIT.false
+
+pub settings-requires-clause-in_bounds_2 : goal.settings-requires-clause-in_bounds_2
+settings-requires-clause-in_bounds_2 c =
+    numbers-most c.requires c.count_parts-fields.ensures c.if-fields-lt7.false c.if-fields-gt8.false c.if-s-ne80.false c.if-s-ne-PIPE.false c.find-name.ensures
+    c.if-name-gt-NAME_LIMIT.false c.find-symbol.ensures c.if-symbol-name-gt-NAME_LIMIT.false
 
 pub returns : goal.returns
 returns c =
-    let low : let a = c.args in 7 ≤ length (fields_of a.s.now 0 a.to) = omega (arith, c.count_parts-fields.ensures, c.if-fields-lt7.false) in
-    let high : let a = c.args in length (fields_of a.s.now 0 a.to) ≤ 8 = omega (arith, c.count_parts-fields.ensures, c.if-fields-gt8.false) in
-    let cut-name : let a = c.args in Field a.s.now 2 a.to c.find-name.result =
-    let p = c.requires in
-    field (first_rest p low high) c.find-name.ensures (omega (arith, low, six_left p low high c.if-s-ne80.false c.if-s-ne-PIPE.false)) in
-    let cut-symbol : let a = c.args in
-    Field a.s.now (c.find-name.result + 1) a.to c.find-symbol.result =
-    let f = cut-name in
-    field (cut-rest f) c.find-symbol.ensures (omega (arith, f.left, low, six_left c.requires low high c.if-s-ne80.false c.if-s-ne-PIPE.false)) in
-    position_is c.requires low high c.if-s-ne80.false c.if-s-ne-PIPE.false cut-name c.if-name-gt-NAME_LIMIT.false cut-symbol c.if-symbol-name-gt-NAME_LIMIT.false c.settings.ensures
+    position_is c.requires c.count_parts-fields.ensures c.if-fields-lt7.false c.if-fields-gt8.false c.if-s-ne80.false c.if-s-ne-PIPE.false c.find-name.ensures
+    c.if-name-gt-NAME_LIMIT.false c.find-symbol.ensures c.if-symbol-name-gt-NAME_LIMIT.false c.settings.ensures

@@ -1,168 +1,80 @@
 -- Four numbers or five, one field after another. Assumes nothing.
-use Prim.Native.Nat.{◌+◌}
-use native.Mathlib.Omega.{arith}
-use mathlib.Core.Path.{◌≡◌, ◌∙◌, sym, ap}
-use mathlib.Core.Option.{some}
-use lib.Seq.{slice}
-use Rattle.text_number.specs.Read.{number_of}
-use Rattle.stop.specs.Stop.{stop_in}
-use Rattle.sheet.specs.Sheet.{interval_limit, timeout_limit, stop_limit, t0_limit}
-use Rattle.text.proofs.Cut.{cut-rest}
-use Rattle.sheet.proofs.Fields.{Field, field, LastTwo, last_two}
-use Rattle.sheet_first.proofs.FirstLine.{field_of, names-rest, bad_interval, bad_timeout, bad_stop, bad_t0, bad_evening, settings-are}
+use mathlib.Core.Path.{◌∙◌, sym}
+use Rattle.text.proofs.Answers.{none_passed}
+use Rattle.sheet_first.proofs.FirstLine.{behind-interval, behind-timeout, behind-stop, behind-t0, bad_interval, bad_timeout, bad_stop, bad_t0, bad_evening, settings-are}
 use Rattle.sheet_first.proofs.settings.Goals as goal
 
-pub returns-in_default : goal.returns-in_default
-returns-in_default c =
-    let cut-interval : let a = c.args in Field a.s.now (a.symbol + 1) a.to c.find-a.result =
-    field (names-rest c.requires.names) c.find-a.ensures (omega (arith, c.requires.in_bounds_1)) in
-    bad_interval c.requires.names cut-interval (sym (ap number_of c.in_default.is) ∙ c.unsigned.ensures)
+pub returns-in_err-interval : goal.returns-in_err-interval
+returns-in_err-interval c =
+    let r = c.requires in
+    let none = none_passed _ _ _ _ c.in_err-interval.ensures.value c.from_residual.ensures.1 in
+    rw none.1 (bad_interval r.names r.in_bounds_1 r.in_bounds_2 c.find-a.ensures (sym none.0 ∙ c.unsigned.ensures))
 
 pub find-b-requires : goal.find-b-requires
 find-b-requires c =
-    let cut-interval : let a = c.args in Field a.s.now (a.symbol + 1) a.to c.find-a.result =
-    field (names-rest c.requires.names) c.find-a.ensures (omega (arith, c.requires.in_bounds_1)) in
-    cut-rest cut-interval
+    let r = c.requires in
+    behind-interval r.names r.in_bounds_1 r.in_bounds_2 c.find-a.ensures
 
-pub returns-in_default-unsigned : goal.returns-in_default-unsigned
-returns-in_default-unsigned c =
-    let cut-interval : let a = c.args in Field a.s.now (a.symbol + 1) a.to c.find-a.result =
-    field (names-rest c.requires.names) c.find-a.ensures (omega (arith, c.requires.in_bounds_1)) in
-    let interval : let a = c.args in
-    some c.in-Is.interval ≡ field_of a.s.now interval_limit (a.symbol + 1) c.find-a.result = sym (ap number_of c.in-Is.is) ∙ c.unsigned.ensures in
-    let cut-timeout : let a = c.args in
-    Field a.s.now (c.find-a.result + 1) a.to c.find-b.result =
-    let f = cut-interval in
-    field (cut-rest f) c.find-b.ensures (omega (arith, f.left, c.requires.in_bounds_1)) in
-    bad_timeout c.requires.names cut-interval interval cut-timeout (sym (ap number_of c.in_default-unsigned.is) ∙ c.unsigned-2.ensures)
+pub returns-in_err-timeout : goal.returns-in_err-timeout
+returns-in_err-timeout c =
+    let r = c.requires in
+    let e0 = sym c.in_ok-interval.ensures.ok_part ∙ c.unsigned.ensures in
+    let none = none_passed _ _ _ _ c.in_err-timeout.ensures.value c.from_residual-in_err-timeout.ensures.1 in
+    rw none.1 (bad_timeout r.names r.in_bounds_1 r.in_bounds_2 c.find-a.ensures e0 c.find-b.ensures (sym none.0 ∙ c.unsigned-2.ensures))
 
 pub find-c-requires : goal.find-c-requires
 find-c-requires c =
-    let cut-interval : let a = c.args in Field a.s.now (a.symbol + 1) a.to c.find-a.result =
-    field (names-rest c.requires.names) c.find-a.ensures (omega (arith, c.requires.in_bounds_1)) in
-    let cut-timeout : let a = c.args in
-    Field a.s.now (c.find-a.result + 1) a.to c.find-b.result =
-    let f = cut-interval in
-    field (cut-rest f) c.find-b.ensures (omega (arith, f.left, c.requires.in_bounds_1)) in
-    cut-rest cut-timeout
+    let r = c.requires in
+    let e0 = sym c.in_ok-interval.ensures.ok_part ∙ c.unsigned.ensures in
+    behind-timeout r.names r.in_bounds_1 r.in_bounds_2 c.find-a.ensures e0 c.find-b.ensures
 
-pub returns-in_default-read_stop : goal.returns-in_default-read_stop
-returns-in_default-read_stop c =
-    let cut-interval : let a = c.args in Field a.s.now (a.symbol + 1) a.to c.find-a.result =
-    field (names-rest c.requires.names) c.find-a.ensures (omega (arith, c.requires.in_bounds_1)) in
-    let interval : let a = c.args in
-    some c.in-Is.interval ≡ field_of a.s.now interval_limit (a.symbol + 1) c.find-a.result = sym (ap number_of c.in-Is.is) ∙ c.unsigned.ensures in
-    let cut-timeout : let a = c.args in
-    Field a.s.now (c.find-a.result + 1) a.to c.find-b.result =
-    let f = cut-interval in
-    field (cut-rest f) c.find-b.ensures (omega (arith, f.left, c.requires.in_bounds_1)) in
-    let timeout : some c.in-Is-unsigned.timeout ≡ field_of c.args.s.now timeout_limit (c.find-a.result + 1) c.find-b.result = sym (ap number_of c.in-Is-unsigned.is) ∙ c.unsigned-2.ensures in
-    let cut-stop : let a = c.args in
-    Field a.s.now (c.find-b.result + 1) a.to c.find-c.result =
-    let f = cut-timeout in
-    field (cut-rest f) c.find-c.ensures (omega (arith, f.left, cut-interval.left, c.requires.in_bounds_1)) in
-    bad_stop c.requires.names cut-interval interval cut-timeout timeout cut-stop
-    (sym (ap number_of c.in_default-read_stop.is) ∙ c.read_stop.ensures)
+pub returns-in_err-stop : goal.returns-in_err-stop
+returns-in_err-stop c =
+    let r = c.requires in
+    let e0 = sym c.in_ok-interval.ensures.ok_part ∙ c.unsigned.ensures in
+    let e1 = sym c.in_ok-timeout.ensures.ok_part ∙ c.unsigned-2.ensures in
+    let none = none_passed _ _ _ _ c.in_err-stop.ensures.value c.from_residual-in_err-stop.ensures.1 in
+    rw none.1 (bad_stop r.names r.in_bounds_1 r.in_bounds_2 c.find-a.ensures e0 c.find-b.ensures e1 c.find-c.ensures (sym none.0 ∙ c.read_stop.ensures))
 
 pub find-d-requires : goal.find-d-requires
 find-d-requires c =
-    let cut-interval : let a = c.args in Field a.s.now (a.symbol + 1) a.to c.find-a.result =
-    field (names-rest c.requires.names) c.find-a.ensures (omega (arith, c.requires.in_bounds_1)) in
-    let cut-timeout : let a = c.args in
-    Field a.s.now (c.find-a.result + 1) a.to c.find-b.result =
-    let f = cut-interval in
-    field (cut-rest f) c.find-b.ensures (omega (arith, f.left, c.requires.in_bounds_1)) in
-    let cut-stop : let a = c.args in
-    Field a.s.now (c.find-b.result + 1) a.to c.find-c.result =
-    let f = cut-timeout in
-    field (cut-rest f) c.find-c.ensures (omega (arith, f.left, cut-interval.left, c.requires.in_bounds_1)) in
-    cut-rest cut-stop
+    let r = c.requires in
+    let e0 = sym c.in_ok-interval.ensures.ok_part ∙ c.unsigned.ensures in
+    let e1 = sym c.in_ok-timeout.ensures.ok_part ∙ c.unsigned-2.ensures in
+    behind-stop r.names r.in_bounds_1 r.in_bounds_2 c.find-a.ensures e0 c.find-b.ensures e1 c.find-c.ensures
 
-pub returns-in_default-unsigned-2 : goal.returns-in_default-unsigned-2
-returns-in_default-unsigned-2 c =
-    let cut-interval : let a = c.args in Field a.s.now (a.symbol + 1) a.to c.find-a.result =
-    field (names-rest c.requires.names) c.find-a.ensures (omega (arith, c.requires.in_bounds_1)) in
-    let interval : let a = c.args in
-    some c.in-Is.interval ≡ field_of a.s.now interval_limit (a.symbol + 1) c.find-a.result = sym (ap number_of c.in-Is.is) ∙ c.unsigned.ensures in
-    let cut-timeout : let a = c.args in
-    Field a.s.now (c.find-a.result + 1) a.to c.find-b.result =
-    let f = cut-interval in
-    field (cut-rest f) c.find-b.ensures (omega (arith, f.left, c.requires.in_bounds_1)) in
-    let timeout : some c.in-Is-unsigned.timeout ≡ field_of c.args.s.now timeout_limit (c.find-a.result + 1) c.find-b.result = sym (ap number_of c.in-Is-unsigned.is) ∙ c.unsigned-2.ensures in
-    let cut-stop : let a = c.args in
-    Field a.s.now (c.find-b.result + 1) a.to c.find-c.result =
-    let f = cut-timeout in
-    field (cut-rest f) c.find-c.ensures (omega (arith, f.left, cut-interval.left, c.requires.in_bounds_1)) in
-    let stop : some c.in-Is-read_stop.stop ≡ stop_in stop_limit (slice (c.find-b.result + 1) c.find-c.result c.args.s.now) = sym (ap number_of c.in-Is-read_stop.is) ∙ c.read_stop.ensures in
-    let cut-t0 : let a = c.args in
-    LastTwo a.s.now (c.find-c.result + 1) a.to c.find-d.result =
-    let f = cut-stop in
-    last_two (cut-rest f) c.find-d.ensures (omega (arith, f.left, cut-timeout.left, cut-interval.left, c.requires.in_bounds_2)) in
-    bad_t0 c.requires.names cut-interval interval cut-timeout timeout cut-stop stop cut-t0
-    (sym (ap number_of c.in_default-unsigned-2.is) ∙ c.unsigned-3.ensures)
+pub returns-in_err-t0 : goal.returns-in_err-t0
+returns-in_err-t0 c =
+    let r = c.requires in
+    let e0 = sym c.in_ok-interval.ensures.ok_part ∙ c.unsigned.ensures in
+    let e1 = sym c.in_ok-timeout.ensures.ok_part ∙ c.unsigned-2.ensures in
+    let e2 = sym c.in_ok-stop.ensures.ok_part ∙ c.read_stop.ensures in
+    let none = none_passed _ _ _ _ c.in_err-t0.ensures.value c.from_residual-in_err-t0.ensures.1 in
+    rw none.1 (bad_t0 r.names r.in_bounds_1 r.in_bounds_2 c.find-a.ensures e0 c.find-b.ensures e1 c.find-c.ensures e2 c.find-d.ensures (sym none.0 ∙ c.unsigned-3.ensures))
 
 pub evening_minutes-requires : goal.evening_minutes-requires
 evening_minutes-requires c =
-    let cut-interval : let a = c.args in Field a.s.now (a.symbol + 1) a.to c.find-a.result =
-    field (names-rest c.requires.names) c.find-a.ensures (omega (arith, c.requires.in_bounds_1)) in
-    let cut-timeout : let a = c.args in
-    Field a.s.now (c.find-a.result + 1) a.to c.find-b.result =
-    let f = cut-interval in
-    field (cut-rest f) c.find-b.ensures (omega (arith, f.left, c.requires.in_bounds_1)) in
-    let cut-stop : let a = c.args in
-    Field a.s.now (c.find-b.result + 1) a.to c.find-c.result =
-    let f = cut-timeout in
-    field (cut-rest f) c.find-c.ensures (omega (arith, f.left, cut-interval.left, c.requires.in_bounds_1)) in
-    let cut-t0 : let a = c.args in
-    LastTwo a.s.now (c.find-c.result + 1) a.to c.find-d.result =
-    let f = cut-stop in
-    last_two (cut-rest f) c.find-d.ensures (omega (arith, f.left, cut-timeout.left, cut-interval.left, c.requires.in_bounds_2)) in
-    cut-t0.rest
+    let r = c.requires in
+    let e0 = sym c.in_ok-interval.ensures.ok_part ∙ c.unsigned.ensures in
+    let e1 = sym c.in_ok-timeout.ensures.ok_part ∙ c.unsigned-2.ensures in
+    let e2 = sym c.in_ok-stop.ensures.ok_part ∙ c.read_stop.ensures in
+    behind-t0 r.names r.in_bounds_1 r.in_bounds_2 c.find-a.ensures e0 c.find-b.ensures e1 c.find-c.ensures e2 c.find-d.ensures
 
-pub returns-in_default-evening_minutes : goal.returns-in_default-evening_minutes
-returns-in_default-evening_minutes c =
-    let cut-interval : let a = c.args in Field a.s.now (a.symbol + 1) a.to c.find-a.result =
-    field (names-rest c.requires.names) c.find-a.ensures (omega (arith, c.requires.in_bounds_1)) in
-    let interval : let a = c.args in
-    some c.in-Is.interval ≡ field_of a.s.now interval_limit (a.symbol + 1) c.find-a.result = sym (ap number_of c.in-Is.is) ∙ c.unsigned.ensures in
-    let cut-timeout : let a = c.args in
-    Field a.s.now (c.find-a.result + 1) a.to c.find-b.result =
-    let f = cut-interval in
-    field (cut-rest f) c.find-b.ensures (omega (arith, f.left, c.requires.in_bounds_1)) in
-    let timeout : some c.in-Is-unsigned.timeout ≡ field_of c.args.s.now timeout_limit (c.find-a.result + 1) c.find-b.result = sym (ap number_of c.in-Is-unsigned.is) ∙ c.unsigned-2.ensures in
-    let cut-stop : let a = c.args in
-    Field a.s.now (c.find-b.result + 1) a.to c.find-c.result =
-    let f = cut-timeout in
-    field (cut-rest f) c.find-c.ensures (omega (arith, f.left, cut-interval.left, c.requires.in_bounds_1)) in
-    let stop : some c.in-Is-read_stop.stop ≡ stop_in stop_limit (slice (c.find-b.result + 1) c.find-c.result c.args.s.now) = sym (ap number_of c.in-Is-read_stop.is) ∙ c.read_stop.ensures in
-    let cut-t0 : let a = c.args in
-    LastTwo a.s.now (c.find-c.result + 1) a.to c.find-d.result =
-    let f = cut-stop in
-    last_two (cut-rest f) c.find-d.ensures (omega (arith, f.left, cut-timeout.left, cut-interval.left, c.requires.in_bounds_2)) in
-    let t0 : some c.in-Is-unsigned-2.t0 ≡ field_of c.args.s.now t0_limit (c.find-c.result + 1) c.find-d.result = sym (ap number_of c.in-Is-unsigned-2.is) ∙ c.unsigned-3.ensures in
-    bad_evening c.requires.names cut-interval interval cut-timeout timeout cut-stop stop cut-t0 t0
-    (sym (ap number_of c.in_default-evening_minutes.is) ∙ c.evening_minutes.ensures)
+pub returns-in_err-evening : goal.returns-in_err-evening
+returns-in_err-evening c =
+    let r = c.requires in
+    let e0 = sym c.in_ok-interval.ensures.ok_part ∙ c.unsigned.ensures in
+    let e1 = sym c.in_ok-timeout.ensures.ok_part ∙ c.unsigned-2.ensures in
+    let e2 = sym c.in_ok-stop.ensures.ok_part ∙ c.read_stop.ensures in
+    let e3 = sym c.in_ok-t0.ensures.ok_part ∙ c.unsigned-3.ensures in
+    let none = none_passed _ _ _ _ c.in_err-evening.ensures.value c.from_residual-in_err-evening.ensures.1 in
+    rw none.1 (bad_evening r.names r.in_bounds_1 r.in_bounds_2 c.find-a.ensures e0 c.find-b.ensures e1 c.find-c.ensures e2 c.find-d.ensures e3 (sym none.0 ∙ c.evening_minutes.ensures))
 
 pub returns : goal.returns
 returns c =
-    let cut-interval : let a = c.args in Field a.s.now (a.symbol + 1) a.to c.find-a.result =
-    field (names-rest c.requires.names) c.find-a.ensures (omega (arith, c.requires.in_bounds_1)) in
-    let interval : let a = c.args in
-    some c.in-Is.interval ≡ field_of a.s.now interval_limit (a.symbol + 1) c.find-a.result = sym (ap number_of c.in-Is.is) ∙ c.unsigned.ensures in
-    let cut-timeout : let a = c.args in
-    Field a.s.now (c.find-a.result + 1) a.to c.find-b.result =
-    let f = cut-interval in
-    field (cut-rest f) c.find-b.ensures (omega (arith, f.left, c.requires.in_bounds_1)) in
-    let timeout : some c.in-Is-unsigned.timeout ≡ field_of c.args.s.now timeout_limit (c.find-a.result + 1) c.find-b.result = sym (ap number_of c.in-Is-unsigned.is) ∙ c.unsigned-2.ensures in
-    let cut-stop : let a = c.args in
-    Field a.s.now (c.find-b.result + 1) a.to c.find-c.result =
-    let f = cut-timeout in
-    field (cut-rest f) c.find-c.ensures (omega (arith, f.left, cut-interval.left, c.requires.in_bounds_1)) in
-    let stop : some c.in-Is-read_stop.stop ≡ stop_in stop_limit (slice (c.find-b.result + 1) c.find-c.result c.args.s.now) = sym (ap number_of c.in-Is-read_stop.is) ∙ c.read_stop.ensures in
-    let cut-t0 : let a = c.args in
-    LastTwo a.s.now (c.find-c.result + 1) a.to c.find-d.result =
-    let f = cut-stop in
-    last_two (cut-rest f) c.find-d.ensures (omega (arith, f.left, cut-timeout.left, cut-interval.left, c.requires.in_bounds_2)) in
-    let t0 : some c.in-Is-unsigned-2.t0 ≡ field_of c.args.s.now t0_limit (c.find-c.result + 1) c.find-d.result = sym (ap number_of c.in-Is-unsigned-2.is) ∙ c.unsigned-3.ensures in
-    settings-are c.requires.names cut-interval interval cut-timeout timeout cut-stop stop cut-t0 t0
-    (sym (ap number_of c.in-Is-evening_minutes.is) ∙ c.evening_minutes.ensures)
+    let r = c.requires in
+    let e0 = sym c.in_ok-interval.ensures.ok_part ∙ c.unsigned.ensures in
+    let e1 = sym c.in_ok-timeout.ensures.ok_part ∙ c.unsigned-2.ensures in
+    let e2 = sym c.in_ok-stop.ensures.ok_part ∙ c.read_stop.ensures in
+    let e3 = sym c.in_ok-t0.ensures.ok_part ∙ c.unsigned-3.ensures in
+    settings-are r.names r.in_bounds_1 r.in_bounds_2 c.find-a.ensures e0 c.find-b.ensures e1 c.find-c.ensures e2 c.find-d.ensures e3 (sym c.in_ok-evening.ensures.ok_part ∙ c.evening_minutes.ensures)

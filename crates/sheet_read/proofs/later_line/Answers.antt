@@ -1,14 +1,15 @@
 -- A tag of one byte, and the line that it tells. Assumes nothing.
+use native.Mathlib.Omega.{arith}
 use Rattle.sheet_read.proofs.LaterLine.{line-short, line-long, line_other, line_o, line_x, line_a, line_y, line_n}
 use Rattle.sheet_read.proofs.later_line.Goals as goal
+use Rattle.sheet_read.proofs.later_line.Goals.{then-to-from-lt2-via-then-to-from-lt2, then-to-from-lt2-via-else-to-from-lt2+then-s-from-ne-PIPE}
 
 pub returns-then-to-from-lt2 : goal.returns-then-to-from-lt2
 returns-then-to-from-lt2 c =
-    line-short c.requires.sheet_ok c.requires.part c.if-to-from-lt2.true
-
-pub returns-then-s-from-ne-PIPE : goal.returns-then-s-from-ne-PIPE
-returns-then-s-from-ne-PIPE c =
-    line-long c.requires.sheet_ok c.requires.part c.if-to-from-lt2.false c.if-s-from-ne-PIPE.true
+    elim c.then-to-from-lt2.branch [
+      | then-to-from-lt2-via-then-to-from-lt2 w ↦ line-short c.requires.sheet_ok c.requires.part w.if-to-from-lt2.true
+      | then-to-from-lt2-via-else-to-from-lt2+then-s-from-ne-PIPE w ↦ line-long c.requires.sheet_ok c.requires.part w.if-to-from-lt2.false w.if-s-from-ne-PIPE.true
+    ]
 
 pub returns-in-79 : goal.returns-in-79
 returns-in-79 c =
@@ -32,5 +33,4 @@ returns-in-78 c =
 
 pub returns-in_default : goal.returns-in_default
 returns-in_default c =
-    let r = c.in_default.in_default-own.rest in
-    line_other c.requires.sheet_ok c.requires.part c.if-to-from-lt2.false c.if-s-from-ne-PIPE.false r.0.0.0.0.1 r.0.0.0.1 r.0.0.1 r.0.1 r.1
+    line_other c.requires.sheet_ok c.requires.part c.if-to-from-lt2.false c.if-s-from-ne-PIPE.false (omega arith) (omega arith) (omega arith) (omega arith) (omega arith)

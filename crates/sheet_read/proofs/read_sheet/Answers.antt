@@ -1,9 +1,8 @@
 -- The length, UTF-8, the first line, and all others. Assumes nothing.
-use mathlib.Core.Path.{◌≡◌, ◌∙◌, sym}
-use mathlib.Core.Bool.{true}
+use mathlib.Core.Path.{◌∙◌, sym}
 use native.Mathlib.Omega.{arith}
-use Rattle.utf8.specs.Utf8.{utf8}
-use Rattle.sheet_read.proofs.AllLines.{too_long, not-utf8, no_line, first-refused, first-ok, sheet-is, tag_refuses}
+use Rattle.std.proofs.lemmas.Result.{err_from_is_err_and}
+use Rattle.sheet_read.proofs.AllLines.{too_long, not-utf8, no_line, first-refused, sheet-is}
 use Rattle.sheet_read.proofs.read_sheet.Goals as goal
 
 pub returns-then-n-gt-TEXT_LIMIT : goal.returns-then-n-gt-TEXT_LIMIT
@@ -18,26 +17,26 @@ returns-then-not-valid c =
 
 pub returns-then-end-n : goal.returns-then-end-n
 returns-then-end-n c =
-    let right : utf8 c.args.s.now ≡ true = sym c.valid.ensures ∙ c.if-not-valid.false in
     let a = c.args in
-    no_line a.s.now a.events.now a.clauses.now c.if-n-gt-TEXT_LIMIT.false right c.find-end.ensures c.if-end-n.true
+    no_line a.s.now a.events.now a.clauses.now c.if-n-gt-TEXT_LIMIT.false (sym c.valid.ensures ∙ c.if-not-valid.false) c.find-end.ensures c.if-end-n.true
 
-pub returns-in_default : goal.returns-in_default
-returns-in_default c =
-    let right : utf8 c.args.s.now ≡ true = sym c.valid.ensures ∙ c.if-not-valid.false in
+pub returns-in_err-a : goal.returns-in_err-a
+returns-in_err-a c =
     let a = c.args in
-    first-refused a.s.now a.events.now a.clauses.now c.if-n-gt-TEXT_LIMIT.false right c.find-end.ensures c.if-end-n.false c.position_line-r.ensures
-    (tag_refuses c.position_line-r.result c.in_default.not-Is)
+    let p = err_from_is_err_and c.from_residual.result c.from_residual.ensures.1 in
+    rw (p.1, p.2)
+    (first-refused a.s.now a.events.now a.clauses.now c.if-n-gt-TEXT_LIMIT.false (sym c.valid.ensures ∙ c.if-not-valid.false) c.find-end.ensures c.if-end-n.false c.in_err-a.ensures)
 
 pub later_lines-requires : goal.later_lines-requires
 later_lines-requires c =
-    let right : utf8 c.args.s.now ≡ true = sym c.valid.ensures ∙ c.if-not-valid.false in
-    let a = c.args in
-    record { from_in_bounds = omega (arith, c.find-end.ensures.high, c.if-end-n.false); events_len = (c.requires.0, c.requires.1, c.if-n-gt-TEXT_LIMIT.false); sheet_ok = first-ok a.s.now a.events.now a.clauses.now c.if-n-gt-TEXT_LIMIT.false right c.find-end.ensures c.if-end-n.false c.position_line-r.ensures c.in-Is.is }
+    record {
+      from_in_bounds = omega (arith, c.find-end.ensures.high, c.if-end-n.false);
+      events_len = (c.requires.0, c.requires.1, c.if-n-gt-TEXT_LIMIT.false);
+      sheet_ok = (c.in_ok-a.ensures c.args.events.now c.args.clauses.now).ok;
+    }
 
 pub returns : goal.returns
 returns c =
-    let right : utf8 c.args.s.now ≡ true = sym c.valid.ensures ∙ c.if-not-valid.false in
     let a = c.args in
-    sheet-is a.s.now a.events.now a.clauses.now c.if-n-gt-TEXT_LIMIT.false right c.find-end.ensures c.if-end-n.false c.position_line-r.ensures c.in-Is.is
+    sheet-is a.s.now a.events.now a.clauses.now c.if-n-gt-TEXT_LIMIT.false (sym c.valid.ensures ∙ c.if-not-valid.false) c.find-end.ensures c.if-end-n.false c.in_ok-a.ensures
     c.later_lines.ensures

@@ -1,43 +1,25 @@
 -- The text's own refusals first, then what it says. Assumes nothing.
-use mathlib.Core.Path.{◌≡◌, ◌∙◌, sym, ap, subst}
-use mathlib.Core.List.{List}
-use Prim.Native.Nat.{ℕ}
+use mathlib.Core.Path.{◌∙◌}
+use Rattle.std.proofs.lemmas.Result.{err_from_is_err_and}
 use Rattle.text.proofs.Answers.{refused_then, got_then}
-use Rattle.utf8_text.specs.Read.{alone_of}
 use Rattle.signal.specs.Signal.{signal_of, signal_alone}
-use Rattle.signal.specs.Read.{ReadAs}
 use Rattle.signal.proofs.signal_alone.Goals as goal
 
-pub returns-in-TooLong : goal.returns-in-TooLong
+pub returns-in_err-check_alone : goal.returns-in_err-check_alone
 unfolding signal_alone
-returns-in-TooLong c = record { is = refused_then _ (sym (ap alone_of c.in-TooLong.is) ∙ c.check_alone.ensures); ok = tt }
+returns-in_err-check_alone c =
+    let p = err_from_is_err_and c.from_residual.result c.from_residual.ensures.1 in
+    rw (p.1, p.2) (record { is = refused_then _ c.in_err-check_alone.ensures; ok = tt })
 
-pub returns-in-NotUtf8 : goal.returns-in-NotUtf8
+pub returns-in_err-from_str : goal.returns-in_err-from_str
 unfolding signal_alone
-returns-in-NotUtf8 c = record { is = refused_then _ (sym (ap alone_of c.in-NotUtf8.is) ∙ c.check_alone.ensures); ok = tt }
+returns-in_err-from_str c =
+    let p = err_from_is_err_and c.from_residual-in_err-from_str.result c.from_residual-in_err-from_str.ensures.1 in
+    let e = c.in_err-from_str.ensures in
+    rw (p.1, p.2) (record { is = e.is ∙ got_then (λ _. signal_of c.args.s.now) c.in_ok-check_alone.ensures; ok = tt })
 
-pub returns-in-Marked : goal.returns-in-Marked
+pub returns : goal.returns
 unfolding signal_alone
-returns-in-Marked c = record { is = refused_then _ (sym (ap alone_of c.in-Marked.is) ∙ c.check_alone.ensures); ok = tt }
-
-pub returns-in-Is : goal.returns-in-Is
-unfolding signal_alone
-returns-in-Is c =
-    let text : List ℕ = c.args.s.now in
-    let fine : signal_of text ≡ signal_alone text = got_then (λ _. signal_of text) (sym (ap alone_of c.in-Fine.is) ∙ c.check_alone.ensures) in
-    let r = subst (ReadAs text) c.in-Is.is c.from_str.ensures in
-    record { is = r.is ∙ fine; ok = r.ok }
-
-pub returns-in-NotSeven : goal.returns-in-NotSeven
-unfolding signal_alone
-returns-in-NotSeven c =
-    let text : List ℕ = c.args.s.now in
-    let fine : signal_of text ≡ signal_alone text = got_then (λ _. signal_of text) (sym (ap alone_of c.in-Fine.is) ∙ c.check_alone.ensures) in
-    record { is = (subst (ReadAs text) c.in-NotSeven.is c.from_str.ensures).is ∙ fine; ok = tt }
-
-pub returns-in-BadScore : goal.returns-in-BadScore
-unfolding signal_alone
-returns-in-BadScore c =
-    let text : List ℕ = c.args.s.now in
-    let fine : signal_of text ≡ signal_alone text = got_then (λ _. signal_of text) (sym (ap alone_of c.in-Fine.is) ∙ c.check_alone.ensures) in
-    record { is = (subst (ReadAs text) c.in-BadScore.is c.from_str.ensures).is ∙ fine; ok = tt }
+returns c =
+    let e = c.in_ok-from_str.ensures in
+    record { is = e.is ∙ got_then (λ _. signal_of c.args.s.now) c.in_ok-check_alone.ensures; ok = e.ok }

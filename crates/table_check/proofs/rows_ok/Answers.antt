@@ -1,22 +1,13 @@
 -- `table_check::rows_ok` meets its contract. Assumes nothing.
+use mathlib.Core.Path.{◌∙◌}
 use Rattle.table_check.proofs.Parts.{names_lent, rows-events, rows-clauses}
-use native.Mathlib.Omega.{arith}
-use borrow.Author.Rules.{rules}
 use Rattle.table_check.proofs.rows_ok.Goals as goal
 
-pub events_ok-requires : goal.events_ok-requires
-events_ok-requires c = record { n_in_bounds = search rules; names_value = names_lent c.requires.headed c.requires.t_value }
+pub events_ok-requires-clause-names_value : goal.events_ok-requires-clause-names_value
+events_ok-requires-clause-names_value c = names_lent c.requires.headed c.requires.t_value
 
-pub clauses_ok-requires : goal.clauses_ok-requires
-clauses_ok-requires c =
-    let h = c.requires.headed in
-    omega (arith, h.keys, h.values, h.texts, h.names, h.keytexts, h.valuetexts, h.used, h.within)
+pub returns-then-events_ok : goal.returns-then-events_ok
+returns-then-events_ok c = rows-clauses c.requires.headed c.events_ok.ensures c.if-events_ok.true c.clauses_ok.ensures
 
-pub returns-then-not-events_ok : goal.returns-then-not-events_ok
-returns-then-not-events_ok c =
-    rows-events c.requires.headed c.events_ok.ensures c.if-not-events_ok.true
-
-pub returns : goal.returns
-returns c =
-    rows-clauses c.requires.headed c.events_ok.ensures c.if-not-events_ok.false
-    c.clauses_ok.ensures
+pub returns-else-events_ok : goal.returns-else-events_ok
+returns-else-events_ok c = c.if-events_ok.false ∙ rows-events c.requires.headed c.events_ok.ensures c.if-events_ok.false

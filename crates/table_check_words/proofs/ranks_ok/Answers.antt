@@ -1,7 +1,6 @@
 -- `table_check_words::ranks_ok` meets its contract. Assumes nothing.
 use Rattle.table_check_words.proofs.Ranks.{ranking_first, ranking_off, ranking_more, ranking_last}
 use mathlib.Core.Path.{sym, ◌∙◌}
-use Prim.Native.Nat.{◌-◌}
 use Rattle.table_check_words.proofs.ranks_ok.Goals as goal
 
 pub loop-i-init : goal.loop-i-init

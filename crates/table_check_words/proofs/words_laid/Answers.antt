@@ -1,7 +1,6 @@
 -- `table_check_words::words_laid` meets its contract. Assumes nothing.
 use Rattle.table_check_words.proofs.Words.{laying_first, laying_off, laying_more, laying_last}
 use mathlib.Core.Path.{sym, ◌∙◌}
-use Prim.Native.Nat.{◌-◌}
 use Rattle.table_check_words.proofs.words_laid.Goals as goal
 
 pub loop-i-init : goal.loop-i-init

@@ -1,10 +1,6 @@
 -- What the loops keep.
 use Rattle.table_check_words.proofs.Words.{Laying}
-use Prim.Native.Nat.{◌-◌}
 use Rattle.table_check_words.proofs.words_laid.Given as goal
 
 abbrev pub invariant-loop-i : goal.invariant-loop-i
 invariant-loop-i l = Laying l.rows l.texts l.n l.limit l.f l.i
-
-abbrev pub decreases-loop-i : goal.decreases-loop-i
-decreases-loop-i l = l.n - l.i

@@ -1,12 +1,8 @@
 -- The key is put behind the last word, and is noted there. Assumes nothing.
-use Prim.Native.Nat.{◌+◌, ◌*◌}
-use native.Mathlib.Omega.{arith}
+use borrow.Author.Rules.{rules}
 use Rattle.table_codes.proofs.Places.{key-start, key-signal, key-is, key-put}
 use Rattle.table_codes.proofs.Adding.{put_candidate, key-added}
 use Rattle.table_codes.proofs.note_key.Goals as goal
-
-pub overflow_cast-from : goal.overflow_cast-from
-overflow_cast-from c = omega (arith, c.shared_slice_known-3-1.given (9 * c.args.i + 1))
 
 pub slice_bounds-put_key-count : goal.slice_bounds-put_key-count
 slice_bounds-put_key-count c =
@@ -17,12 +13,12 @@ slice_bounds-put_key-start c =
     key-start c.args.s.now c.args.cs.now c.args.i c.requires.row_ok
 
 pub put_key-to-requires : goal.put_key-to-requires
-put_key-to-requires c = record { signal_ok = key-signal c.args.s.now c.args.cs.now c.args.i c.requires.row_ok c.signal_at.ensures; a_in_bounds = rw (key-is c.args.s.now c.args.cs.now c.args.i c.requires.row_ok c.signal_at.ensures) c.requires.fact.texts-room }
+put_key-to-requires c = record { signal_ok = key-signal c.args.s.now c.args.cs.now c.args.i c.requires.row_ok c.signal_at.ensures; a_in_bounds = rw (key-is c.args.s.now c.args.cs.now c.args.i c.requires.row_ok c.signal_at.ensures) (search rules) }
 
 pub note-requires : goal.note-requires
 note-requires c =
-    put_candidate c.requires.fact (key-put c.args.s.now c.args.cs.now c.args.i c.requires.row_ok c.signal_at.ensures c.put_key-to.ensures)
+    put_candidate c.requires.room (key-put c.args.s.now c.args.cs.now c.args.i c.requires.row_ok c.signal_at.ensures (rw c.end-end.ensures at c.put_key-to.ensures))
 
 pub returns : goal.returns
 returns c =
-    key-added c.requires.fact (key-put c.args.s.now c.args.cs.now c.args.i c.requires.row_ok c.signal_at.ensures c.put_key-to.ensures) c.note.ensures
+    key-added c.requires.room (key-put c.args.s.now c.args.cs.now c.args.i c.requires.row_ok c.signal_at.ensures (rw c.end-end.ensures at c.put_key-to.ensures)) c.note.ensures

@@ -1,5 +1,4 @@
 -- The keys of all clauses, one after another. Assumes nothing.
-use Prim.Native.Nat.{◌-◌}
 use Rattle.table_codes.proofs.Places.{row_ok}
 use Rattle.table_codes.proofs.Loops.{keying_first, keying_open, keying_more, keying_last}
 use Rattle.table_codes.proofs.note_keys.Goals as goal
@@ -8,12 +7,12 @@ pub loop-i-init : goal.loop-i-init
 loop-i-init c =
     keying_first c.requires.rows_ok c.requires.room
 
-pub note_key-k-requires : goal.note_key-k-requires
-note_key-k-requires c = record { row_ok = row_ok c.requires.rows_ok c.loop-i.i c.loop-i-test.true; fact = keying_open c.requires.rows_ok c.requires.room c.loop-i.invariant c.loop-i-test.true }
+pub note_key-requires : goal.note_key-requires
+note_key-requires c = record { row_ok = row_ok c.requires.rows_ok c.loop-i.i c.loop-i-test.true; room = keying_open c.requires.rows_ok c.requires.room c.loop-i.invariant c.loop-i-test.true }
 
 pub loop-i-preserved : goal.loop-i-preserved
 loop-i-preserved c =
-    keying_more c.requires.rows_ok c.requires.room c.loop-i.invariant c.loop-i-test.true c.note_key-k.ensures
+    keying_more c.requires.rows_ok c.requires.room c.loop-i.invariant c.loop-i-test.true c.note_key.ensures
 
 pub returns : goal.returns
 returns c =

@@ -1,5 +1,5 @@
 -- The values of all clauses, one after another. Assumes nothing.
-use Prim.Native.Nat.{◌-◌, ◌/◌}
+use Prim.Native.Nat.{◌/◌}
 use native.Mathlib.Omega.{arith}
 use Rattle.table_codes.proofs.Places.{row_ok}
 use Rattle.table_codes.proofs.Loops.{coding_first, coding_open, coding_more, coding_last}
@@ -9,12 +9,12 @@ pub loop-j-init : goal.loop-j-init
 loop-j-init c =
     coding_first c.requires.rows_ok c.requires.room
 
-pub note_value_at-v-requires : goal.note_value_at-v-requires
-note_value_at-v-requires c = record { row_ok = row_ok c.requires.rows_ok (c.loop-j.j / 3) (omega (arith, c.loop-j-test.true)); fact = coding_open c.requires.rows_ok c.requires.room c.loop-j.invariant c.loop-j-test.true }
+pub note_value_at-requires : goal.note_value_at-requires
+note_value_at-requires c = record { row_ok = row_ok c.requires.rows_ok (c.loop-j.j / 3) (omega (arith, c.loop-j-test.true)); room = coding_open c.requires.rows_ok c.requires.room c.loop-j.invariant c.loop-j-test.true }
 
 pub loop-j-preserved : goal.loop-j-preserved
 loop-j-preserved c =
-    coding_more c.requires.rows_ok c.requires.room c.loop-j.invariant c.loop-j-test.true c.note_value_at-v.ensures
+    coding_more c.requires.rows_ok c.requires.room c.loop-j.invariant c.loop-j-test.true c.note_value_at.ensures
 
 pub returns : goal.returns
 returns c =

@@ -1,5 +1,4 @@
 -- `table_words::lacks` meets its contract: `Meeting`, whether x was met, is the invariant. Assumes nothing.
-use Prim.Native.Nat.{◌-◌}
 use Rattle.table_words.proofs.Meeting.{meeting_first, meeting_more, meeting_last}
 use Rattle.table_words.proofs.lacks.Goals as goal
 

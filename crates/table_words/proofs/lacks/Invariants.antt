@@ -1,11 +1,6 @@
 -- What the loops keep.
-use lib.ListN.{length}
-use Prim.Native.Nat.{◌-◌}
 use Rattle.table_words.proofs.Meeting.{Meeting}
 use Rattle.table_words.proofs.lacks.Given as goal
 
 abbrev pub invariant-loop-i : goal.invariant-loop-i
 invariant-loop-i l = Meeting l.s l.x l.m l.i
-
-abbrev pub decreases-loop-i : goal.decreases-loop-i
-decreases-loop-i l = length l.s - l.i

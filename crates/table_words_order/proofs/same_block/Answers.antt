@@ -1,5 +1,4 @@
 -- `table_words_order::same_block` meets its contract: `Block`, whether the first k bytes are the same, is the invariant. Assumes nothing.
-use Prim.Native.Nat.{◌-◌}
 use Rattle.table_words_order.proofs.Level.{block_first, block_more, block_last}
 use Rattle.table_words_order.proofs.same_block.Goals as goal
 

@@ -1,11 +1,7 @@
 -- What the loops keep.
+use Rattle.std.specs.Prelude.{◌*◌}
 use Rattle.table_words_order.specs.Read.{Level}
-use lib.ListN.{length}
-use Prim.Native.Nat.{◌-◌}
 use Rattle.table_words_order.proofs.skip_same.Given as goal
 
-abbrev pub invariant-loop-i : goal.invariant-loop-i
-invariant-loop-i l = Level l.a l.b 0 l.i
-
-abbrev pub decreases-loop-i : goal.decreases-loop-i
-decreases-loop-i l = length l.a - l.i
+abbrev pub invariant-loop-j : goal.invariant-loop-j
+invariant-loop-j l = Level l.a l.b 0 (8 * l.j)

@@ -1,6 +1,5 @@
 -- `table_words_parts::count_block` meets its contract: `Block`, how many of the first k bytes are underscores, is the invariant. Assumes nothing.
 use Rattle.table_words_parts.proofs.Count.{block_first, block_more, block_last}
-use Prim.Native.Nat.{◌-◌}
 use Rattle.table_words_parts.proofs.count_block.Goals as goal
 
 pub loop-k-init : goal.loop-k-init

@@ -1,6 +1,5 @@
 -- `table_words_parts::count_blocks` meets its contract: `Blocks`, how many underscores the first j blocks have, is the invariant. Assumes nothing.
 use Rattle.table_words_parts.proofs.Count.{blocks_first, blocks_more, blocks_many, blocks_last}
-use Prim.Native.Nat.{◌-◌}
 use Rattle.table_words_parts.proofs.count_blocks.Goals as goal
 
 pub loop-j-init : goal.loop-j-init

@@ -1,6 +1,5 @@
 -- `table_words_parts::few_behind` meets its contract: `Behind`, how many underscores stand up to j, is the invariant. Assumes nothing.
 use Rattle.table_words_parts.proofs.Count.{behind-first, behind_more, behind-many, behind-last}
-use Prim.Native.Nat.{◌-◌}
 use Rattle.table_words_parts.proofs.few_behind.Goals as goal
 
 pub loop-j-init : goal.loop-j-init

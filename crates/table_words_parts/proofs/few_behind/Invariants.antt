@@ -1,11 +1,6 @@
 -- What the loops keep.
 use Rattle.table_words_parts.proofs.Count.{Behind}
-use lib.ListN.{length}
-use Prim.Native.Nat.{◌-◌}
 use Rattle.table_words_parts.proofs.few_behind.Given as goal
 
 abbrev pub invariant-loop-j : goal.invariant-loop-j
 invariant-loop-j l = Behind l.s l.i l.c l.limit l.d l.j
-
-abbrev pub decreases-loop-j : goal.decreases-loop-j
-decreases-loop-j l = length l.s - l.j

@@ -1,6 +1,5 @@
 -- `table_words_parts::is_tame` meets its contract: `Taming`, whether a pair was met, is the invariant. Assumes nothing.
 use Rattle.table_words_parts.proofs.Tame.{taming_first, taming_more, taming_last}
-use Prim.Native.Nat.{◌-◌}
 use Rattle.table_words_parts.proofs.is_tame.Goals as goal
 
 pub loop-i-init : goal.loop-i-init

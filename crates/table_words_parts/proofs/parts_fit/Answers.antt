@@ -3,20 +3,20 @@ use mathlib.Core.Path.{sym, ◌∙◌}
 use Rattle.table_words_parts.proofs.Fit.{parted_first, parted_wild, parted_end, parted_more, parted_last}
 use Rattle.table_words_parts.proofs.parts_fit.Goals as goal
 
-pub loop-left-init : goal.loop-left-init
-loop-left-init c = parted_first _ _
+pub loop-part-init : goal.loop-part-init
+loop-part-init c = parted_first _ _
 
 pub returns-then-is_wild : goal.returns-then-is_wild
 returns-then-is_wild c =
-    parted_wild c.loop-left.invariant c.loop-left-test.true c.find-e.ensures (sym c.is_wild.ensures ∙ c.if-is_wild.true)
+    parted_wild c.loop-part.invariant c.loop-part-test.true c.find-e.ensures (sym c.is_wild.ensures ∙ c.if-is_wild.true)
 
 pub returns-then-e-n : goal.returns-then-e-n
 returns-then-e-n c =
-    parted_end c.loop-left.invariant c.loop-left-test.true c.find-e.ensures (sym c.is_wild.ensures ∙ c.if-is_wild.false) c.if-e-n.true
+    parted_end c.loop-part.invariant c.loop-part-test.true c.find-e.ensures (sym c.is_wild.ensures ∙ c.if-is_wild.false) c.if-e-n.true
 
-pub loop-left-preserved : goal.loop-left-preserved
-loop-left-preserved c =
-    parted_more c.loop-left.invariant c.loop-left-test.true c.find-e.ensures (sym c.is_wild.ensures ∙ c.if-is_wild.false) c.if-e-n.false
+pub loop-part-preserved : goal.loop-part-preserved
+loop-part-preserved c =
+    parted_more c.loop-part.invariant c.loop-part-test.true c.find-e.ensures (sym c.is_wild.ensures ∙ c.if-is_wild.false) c.if-e-n.false
 
 pub returns : goal.returns
-returns c = parted_last c.loop-left.invariant c.loop-left-test.false
+returns c = parted_last c.loop-part.invariant c.loop-part-test.false

@@ -1,14 +1,10 @@
 -- `table_write::names_length` meets its contract: `Summing` is the invariant. Assumes nothing.
-use Prim.Native.Nat.{◌-◌}
 use native.Mathlib.Omega.{arith}
 use Rattle.table_write.proofs.Names.{summing_first, summing_low, summing_more, summing_last}
 use Rattle.table_write.proofs.names_length.Goals as goal
 
 pub loop-i-init : goal.loop-i-init
 loop-i-init c = summing_first c.args.es.now c.args.n c.requires.n_in_bounds c.requires.n_bound
-
-pub overflow_cast-sum : goal.overflow_cast-sum
-overflow_cast-sum c = omega (arith, summing_low c.loop-i.invariant c.loop-i-test.true)
 
 pub overflow_add-sum-in-loop-i : goal.overflow_add-sum-in-loop-i
 overflow_add-sum-in-loop-i c = omega (arith, summing_low c.loop-i.invariant c.loop-i-test.true)

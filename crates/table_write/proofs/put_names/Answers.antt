@@ -1,5 +1,4 @@
 -- `table_write::put_names` meets its contract: `Naming`, the names that stand, is the invariant. Assumes nothing.
-use Prim.Native.Nat.{◌-◌}
 use Rattle.table_write.proofs.Names.{naming_first, naming_numbers, naming_within, naming_room, naming_more, naming_last}
 use Rattle.table_write.proofs.put_names.Goals as goal
 

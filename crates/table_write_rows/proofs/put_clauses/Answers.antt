@@ -1,5 +1,4 @@
 -- `table_write_rows::put_clauses` meets its contract: `Clausing`, the rows that stand, is the invariant. Assumes nothing.
-use Prim.Native.Nat.{◌-◌}
 use Rattle.table_write_rows.proofs.Rows.{rowing_last, clausing_first, clausing_room, clausing_codes, clausing_more}
 use Rattle.table_write_rows.proofs.put_clauses.Goals as goal
 

@@ -1,5 +1,4 @@
 -- `table_write_rows::put_events` meets its contract: `Eventing`, the rows that stand and their names' length, is the invariant. Assumes nothing.
-use Prim.Native.Nat.{◌-◌}
 use native.Mathlib.Omega.{arith}
 use Rattle.table_write_rows.proofs.Rows.{rowing_last, eventing_first, eventing_room, eventing_near, eventing_more}
 use Rattle.table_write_rows.proofs.put_events.Goals as goal

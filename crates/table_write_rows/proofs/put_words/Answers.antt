@@ -1,5 +1,4 @@
 -- `table_write_rows::put_words` meets its contract: `Wording`, the rows that stand, is the invariant. Assumes nothing.
-use Prim.Native.Nat.{◌-◌}
 use Rattle.table_write_rows.proofs.Rows.{rowing_last, wording_first, wording_fit, wording_more}
 use Rattle.table_write_rows.proofs.put_words.Goals as goal
 

@@ -1,6 +1,7 @@
--- `text::contains` meets its contract: b stands in the text if its first place is not the end. Assumes nothing.
-use Rattle.text.proofs.Parts.{has-place}
+-- `text::contains` meets its contract: some element of the text is b. Assumes nothing.
+use mathlib.Core.Path.{◌∙◌}
+use Rattle.text.proofs.Parts.{has-any}
 use Rattle.text.proofs.contains.Goals as goal
 
 pub returns : goal.returns
-returns c = has-place c.find.ensures
+returns c = c.contains.ensures.value ∙ has-any c.args.b c.args.s.now

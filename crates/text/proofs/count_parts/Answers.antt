@@ -1,10 +1,7 @@
 -- `text::count_parts` meets its contract: `Counting` is the invariant, and a separator makes one part more. Assumes nothing.
-use Rattle.text.proofs.Parts.{counting_first, counting_last, counting_hit, counting_miss}
+use Rattle.text.proofs.Parts.{counting_last, counting_hit, counting_miss}
 use Rattle.text.proofs.count_parts.Goals as goal
 use Rattle.text.proofs.count_parts.Goals.{then-s-i, else-s-i}
-
-pub loop-i-init : goal.loop-i-init
-loop-i-init c = counting_first _ c.requires
 
 pub loop-i-preserved : goal.loop-i-preserved
 loop-i-preserved c =

@@ -1,9 +1,6 @@
 -- `text::find` meets its contract: `Finding` is the invariant. Assumes nothing.
-use Rattle.text.proofs.Search.{finding_first, finding_hit, finding_miss, finding_last}
+use Rattle.text.proofs.Search.{finding_hit, finding_miss, finding_last}
 use Rattle.text.proofs.find.Goals as goal
-
-pub loop-i-init : goal.loop-i-init
-loop-i-init c = finding_first c.args.b c.requires
 
 pub returns-then-s-i : goal.returns-then-s-i
 returns-then-s-i c = finding_hit c.loop-i.invariant c.loop-i-test.true c.if-s-i.true

@@ -1,20 +1,11 @@
--- `text::part_eq` meets its contract: `Left`, what is left of the two parts, is the invariant. Assumes nothing.
-use Prim.Native.Nat.{◌-◌}
-use mathlib.Core.Path.{refl}
-use Rattle.text.proofs.Same.{unequal, all_equal, differs, one_equal}
+-- `text::part_eq` meets its contract: the two parts are lent and compared. Assumes nothing.
+use mathlib.Core.Path.{◌∙◌, ap₂}
+use Rattle.text.specs.Text.{same}
+use Rattle.text.proofs.Laws.{part-size}
+use Rattle.text.proofs.Same.{same-pointwise}
 use Rattle.text.proofs.part_eq.Goals as goal
 
-pub returns-then-a1-a0 : goal.returns-then-a1-a0
-returns-then-a1-a0 c = unequal c.requires.part c.requires.part_2 c.if-a1-a0.true
-
-pub loop-i-init : goal.loop-i-init
-loop-i-init c = record { here = c.requires.part; there = c.requires.part_2; even = c.if-a1-a0.false; still = refl }
-
-pub returns-then-a-i : goal.returns-then-a-i
-returns-then-a-i c = differs c.loop-i.invariant c.loop-i-test.true c.if-a-i.true
-
-pub loop-i-preserved : goal.loop-i-preserved
-loop-i-preserved c = one_equal c.loop-i.invariant c.loop-i-test.true c.if-a-i.false
-
 pub returns : goal.returns
-returns c = all_equal c.loop-i.invariant c.loop-i-test.false
+returns c =
+    let a = c.args in
+    c.eq.ensures ∙ same-pointwise _ _ ∙ ap₂ same (part-size a.a0 a.a1 a.a.now c.requires.part.order) (part-size a.b0 a.b1 a.b.now c.requires.part_2.order)

@@ -1,41 +1,31 @@
 -- `utf8::character` meets its contract: each way out is a law on what the first two bytes tell. Assumes nothing.
-use Rattle.utf8.proofs.Laws.{after_under, after_over, read_none, read_first, range_cut, range_below, range_above, range_among, char_on}
-use Rattle.utf8.specs.Read.{Read, ranges}
-use Rattle.utf8.specs.Utf8.{utf8}
-use lib.ListN.{drop}
-use Prim.Native.Nat.{◌+◌}
+use Rattle.utf8.proofs.Laws.{read_none, read_first, range_cut, range_below, range_above, range_among, char_on}
 use native.Mathlib.Omega.{arith}
-use mathlib.Core.Path.{sym}
+use mathlib.Core.Path.{◌≡◌, sym}
+use lib.ListN.{get_or, drop}
+use Prim.Native.Nat.{◌+◌, ◌≤◌, ◌<◌}
+use mathlib.Core.Bool.{false}
+use Rattle.utf8.specs.Utf8.{utf8}
 use Rattle.utf8.proofs.character.Goals as goal
 
-pub returns-then-b-lt194 : goal.returns-then-b-lt194
-returns-then-b-lt194 c =
-    read_none (read_first _ _ _ c.requires.0 (after_under _ c.requires.1 (omega arith)))
+pub returns-in_err-f : goal.returns-in_err-f
+returns-in_err-f c = rw c.from_residual.ensures (read_none (read_first _ _ _ c.requires.0 (sym c.in_err-f.ensures)))
 
-pub returns-then-b-gt244 : goal.returns-then-b-gt244
-returns-then-b-gt244 c =
-    read_none (read_first _ _ _ c.requires.0 (after_over _ (omega arith)))
+pub returns-in_err-t : goal.returns-in_err-t
+returns-in_err-t c = rw c.from_residual-in_err-t.ensures (range_cut (read_first _ _ _ c.requires.0 (sym c.in_ok-f.ensures)) c.in_err-t.ensures.lookup.3)
 
-pub returns-then-s-j : goal.returns-then-s-j
-returns-then-s-j c =
-    let follows : let a = c.args in
-    Read a.s.now (a.i + 1) (utf8 (drop a.i a.s.now)) (ranges c.follow-f.result) (a.i + 1) = read_first _ _ _ c.requires.0 (sym c.follow-f.ensures) in
-    range_cut follows c.if-s-j.true
+pub returns-then-contains : goal.returns-then-contains
+returns-then-contains c =
+    let byte = c.in_ok-t.ensures.lookup.4 (omega arith) 0 in
+    let low : c.in_ok-f.f.lo ≤ get_or c.args.s.now (c.args.i + 1) 0 = grind arith in
+    let high : get_or c.args.s.now (c.args.i + 1) 0 ≤ c.in_ok-f.f.hi = grind arith in
+    let follows = read_first _ _ _ c.requires.0 (sym c.in_ok-f.ensures) in
+    char_on (range_among follows c.in_ok-t.ensures.lookup.3.0 low high) c.tails.result c.tails.ensures
 
-pub returns-then-t-f : goal.returns-then-t-f
-returns-then-t-f c =
-    let follows : let a = c.args in
-    Read a.s.now (a.i + 1) (utf8 (drop a.i a.s.now)) (ranges c.follow-f.result) (a.i + 1) = read_first _ _ _ c.requires.0 (sym c.follow-f.ensures) in
-    range_below follows c.if-s-j.false c.if-t-f.true
-
-pub returns-then-f-t : goal.returns-then-f-t
-returns-then-f-t c =
-    let follows : let a = c.args in
-    Read a.s.now (a.i + 1) (utf8 (drop a.i a.s.now)) (ranges c.follow-f.result) (a.i + 1) = read_first _ _ _ c.requires.0 (sym c.follow-f.ensures) in
-    range_above follows c.if-s-j.false c.if-f-t.true
-
-pub returns : goal.returns
-returns c =
-    let follows : let a = c.args in
-    Read a.s.now (a.i + 1) (utf8 (drop a.i a.s.now)) (ranges c.follow-f.result) (a.i + 1) = read_first _ _ _ c.requires.0 (sym c.follow-f.ensures) in
-    char_on (range_among follows c.if-s-j.false c.if-t-f.false c.if-f-t.false) c.tails.result c.tails.ensures
+pub returns-else-contains : goal.returns-else-contains
+returns-else-contains c =
+    let byte = c.in_ok-t.ensures.lookup.4 (omega arith) 0 in
+    let wrong : (get_or c.args.s.now (c.args.i + 1) 0 < c.in_ok-f.f.lo → utf8 (drop c.args.i c.args.s.now) ≡ false) × (c.in_ok-f.f.hi < get_or c.args.s.now (c.args.i + 1) 0 → utf8 (drop c.args.i c.args.s.now) ≡ false) =
+    let follows = read_first _ _ _ c.requires.0 (sym c.in_ok-f.ensures) in
+    (range_below follows c.in_ok-t.ensures.lookup.3.0, range_above follows c.in_ok-t.ensures.lookup.3.0) in
+    grind arith

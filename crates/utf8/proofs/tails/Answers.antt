@@ -1,28 +1,27 @@
--- `utf8::tails` meets its contract. The loop has read i..j, and k tails are still to come. Assumes nothing.
-use Rattle.utf8.proofs.Laws.{read-start, tails_some, tails_none, range_cut, range_below, range_above, range_among}
+-- `utf8::tails` meets its contract. The loop has read i..j, and the tails up to `end` are still to come. Assumes nothing.
+use Rattle.utf8.proofs.Laws.{tails_some, range_cut, range_below, range_above, range_among}
 use native.Mathlib.Omega.{arith}
+use Prim.Native.Nat.{◌+◌, ◌-◌, ◌≤◌}
+use lib.ListN.{get_or}
 use Rattle.utf8.proofs.tails.Goals as goal
 
-pub loop-k-init : goal.loop-k-init
-loop-k-init c = read-start _ _ _ c.requires
+pub returns-in_err-get : goal.returns-in_err-get
+returns-in_err-get c =
+    let coming = tails_some c.loop-j.invariant (c.args.i + c.args.more - (c.loop-j.j + 1)) (omega arith) in
+    rw c.from_residual.ensures (range_cut coming c.in_err-get.ensures.lookup.3)
 
-pub returns-then-s-j : goal.returns-then-s-j
-returns-then-s-j c = range_cut (tails_some c.loop-k.invariant c.loop-k-test.true) c.if-s-j.true
+pub returns-then-not-matches : goal.returns-then-not-matches
+returns-then-not-matches c =
+    let coming = tails_some c.loop-j.invariant (c.args.i + c.args.more - (c.loop-j.j + 1)) (omega arith) in
+    let byte = c.in_ok-get.ensures.lookup.4 (omega arith) 0 in
+    let low = range_below coming c.in_ok-get.ensures.lookup.3.0 in
+    let high = range_above coming c.in_ok-get.ensures.lookup.3.0 in
+    grind arith
 
-pub returns-then-b-lt128 : goal.returns-then-b-lt128
-returns-then-b-lt128 c =
-    let w = c.before.before in
-    range_below (tails_some w.loop-k.invariant w.loop-k-test.true) w.if-s-j.false (omega arith)
-
-pub returns-then-b-gt191 : goal.returns-then-b-gt191
-returns-then-b-gt191 c =
-    let w = c.before.before.before in
-    range_above (tails_some w.loop-k.invariant w.loop-k-test.true) w.if-s-j.false (omega arith)
-
-pub loop-k-preserved : goal.loop-k-preserved
-loop-k-preserved c =
-    let w = c.before.before.before in
-    range_among (tails_some w.loop-k.invariant w.loop-k-test.true) w.if-s-j.false c.if-b-lt128.false c.if-b-gt191.false
-
-pub returns : goal.returns
-returns c = tails_none c.loop-k.invariant c.loop-k-test.false
+pub loop-j-preserved : goal.loop-j-preserved
+loop-j-preserved c =
+    let coming = tails_some c.loop-j.invariant (c.args.i + c.args.more - (c.loop-j.j + 1)) (omega arith) in
+    let byte = c.in_ok-get.ensures.lookup.4 (omega arith) 0 in
+    let low : 0x80 ≤ get_or c.args.s.now c.loop-j.j 0 = grind arith in
+    let high : get_or c.args.s.now c.loop-j.j 0 ≤ 0xbf = grind arith in
+    range_among coming c.in_ok-get.ensures.lookup.3.0 low high

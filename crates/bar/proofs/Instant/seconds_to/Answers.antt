@@ -1,21 +1,9 @@
--- `bar::Instant::seconds_to` meets its contract. Assumes nothing.
-use Rattle.bar.proofs.Steps.{Gap, gap}
+-- `bar::Instant::seconds_to` meets its contract: the difference and the quotient fit. Assumes nothing.
+use native.Mathlib.Omega.{arith}
+use Rattle.std.proofs.lemmas.Int.{ints}
+use Rattle.bar.specs.Time.{seconds_between}
 use Rattle.bar.proofs.Instant.seconds_to.Goals as goal
 
 pub returns : goal.returns
-returns c =
-    let at : Gap c.args.self.0 c.args.later.0 =
-    gap c.args.self.0 c.args.later.0 c.requires.fact_1 c.requires.fact_2 in
-    (at.2, rw at.2 at.3)
-
-pub overflow_sub-result : goal.overflow_sub-result
-overflow_sub-result c =
-    let at : Gap c.args.self.0 c.args.later.0 =
-    gap c.args.self.0 c.args.later.0 c.requires.fact_1 c.requires.fact_2 in
-    at.0
-
-pub nonzero_div-result : goal.nonzero_div-result
-nonzero_div-result c =
-    let at : Gap c.args.self.0 c.args.later.0 =
-    gap c.args.self.0 c.args.later.0 c.requires.fact_1 c.requires.fact_2 in
-    at.1
+unfolding seconds_between
+returns c = (grind (arith, ints), grind (arith, ints))

@@ -1,9 +1,8 @@
--- `position_machine::step::close` meets its contract. Assumes nothing.
-use Prim.Native.Nat.{ℕ}
+-- The side may not close, or nothing closes it, or it closes. Assumes nothing.
+use Rattle.std.specs.Prelude.{ℕ, None, Some}
 use mathlib.Core.Path.{sym, ap, ◌∙◌}
 use Rattle.position.specs.Step.{write}
 use Rattle.position.specs.declared.Pos.TheVariants.{Flat}
-use Rattle.position.specs.declared.Decision.TheVariants.{Nothing, By}
 use Rattle.position_machine.specs.Update.{of_settings}
 use Rattle.position_machine.specs.Rules.{silent}
 use Rattle.position_machine.proofs.Rules.{stays, leaves}
@@ -14,16 +13,15 @@ returns-then-not-can_close c =
     let a = c.args in
     stays (of_settings a.k) a.bar a.c a.side a.lots a.h (sym c.can_close.ensures ∙ c.if-not-can_close.true)
 
-pub returns-in-Nothing : goal.returns-in-Nothing
-returns-in-Nothing c =
+pub returns-in-None : goal.returns-in-None
+returns-in-None c =
     let a = c.args in
-    leaves (of_settings a.k) a.bar a.c a.side a.lots a.h Nothing (sym c.can_close.ensures ∙ c.if-not-can_close.false)
-    (sym c.exit_desc-exit.ensures ∙ c.in-Nothing.is)
+    leaves (of_settings a.k) a.bar a.c a.side a.lots a.h None (sym c.can_close.ensures ∙ c.if-not-can_close.false) (sym c.in-None.ensures)
 
-pub returns-in-By : goal.returns-in-By
-returns-in-By c =
+pub returns-in-Some : goal.returns-in-Some
+returns-in-Some c =
     let a = c.args in
+    let d = c.in-Some.description in
     c.create_operate_record.ensures a.lots
-    ∙ ap (λ (n : ℕ). write a.bar n Flat c.in-By.description a.lots (silent a.h a.lots)) c.close_operate.ensures
-    ∙ leaves (of_settings a.k) a.bar a.c a.side a.lots a.h (By c.in-By.description) (sym c.can_close.ensures ∙ c.if-not-can_close.false)
-    (sym c.exit_desc-exit.ensures ∙ c.in-By.is)
+    ∙ ap (λ (n : ℕ). write a.bar n Flat d a.lots (silent a.h a.lots)) c.close_operate.ensures
+    ∙ leaves (of_settings a.k) a.bar a.c a.side a.lots a.h (Some d) (sym c.can_close.ensures ∙ c.if-not-can_close.false) (sym c.in-Some.ensures)

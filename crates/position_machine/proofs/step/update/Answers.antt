@@ -1,15 +1,15 @@
--- `position_machine::step::update` meets its contract. Assumes nothing.
+-- An LO or SO opens its side, else both sides close. Assumes nothing.
 use mathlib.Core.Path.{◌∙◌}
 use borrow.Author.Tests.{eq-eqb, ne_eqb}
 use Rattle.double.specs.declared.Side.TheVariants as Side
-use Rattle.position_machine.specs.Update.{of_settings, TimesOk}
+use Rattle.position_machine.specs.Update.{of_settings}
 use Rattle.position_machine.proofs.Rules.{first-still, first-wrote, times_still, opens, closes}
 use Rattle.position_machine.proofs.step.update.Goals as goal
 
 pub open_or_close-requires : goal.open_or_close-requires
 open_or_close-requires c =
-    let times : TimesOk c.args.bar c.arrive-arrived.result = times_still c.args.bar c.args.c c.args.lots c.args.h (c.arrive-arrived.ensures c.args.lots) c.requires in
-    times
+    let a = c.args in
+    times_still a.bar a.c a.lots a.h (c.arrive-arrived.ensures a.lots) c.requires
 
 pub returns-then-c-eq-LO : goal.returns-then-c-eq-LO
 returns-then-c-eq-LO c =
@@ -18,8 +18,8 @@ returns-then-c-eq-LO c =
 
 pub open_or_close-requires-then-c-eq-SO : goal.open_or_close-requires-then-c-eq-SO
 open_or_close-requires-then-c-eq-SO c =
-    let times : TimesOk c.args.bar c.arrive-arrived.result = times_still c.args.bar c.args.c c.args.lots c.args.h (c.arrive-arrived.ensures c.args.lots) c.requires in
-    times
+    let a = c.args in
+    times_still a.bar a.c a.lots a.h (c.arrive-arrived.ensures a.lots) c.requires
 
 pub returns-then-c-eq-SO : goal.returns-then-c-eq-SO
 returns-then-c-eq-SO c =
@@ -28,25 +28,25 @@ returns-then-c-eq-SO c =
 
 pub close-u-requires : goal.close-u-requires
 close-u-requires c =
-    let times : TimesOk c.args.bar c.arrive-arrived.result = times_still c.args.bar c.args.c c.args.lots c.args.h (c.arrive-arrived.ensures c.args.lots) c.requires in
-    times
+    let a = c.args in
+    times_still a.bar a.c a.lots a.h (c.arrive-arrived.ensures a.lots) c.requires
 
 pub close-requires : goal.close-requires
 close-requires c =
-    let times : TimesOk c.args.bar c.arrive-arrived.result = times_still c.args.bar c.args.c c.args.lots c.args.h (c.arrive-arrived.ensures c.args.lots) c.requires in
-    times
+    let a = c.args in
+    times_still a.bar a.c a.lots a.h (c.arrive-arrived.ensures a.lots) c.requires
 
-pub returns-in-Nothing : goal.returns-in-Nothing
-returns-in-Nothing c =
+pub returns-in-None : goal.returns-in-None
+returns-in-None c =
     let a = c.args in
     let s = of_settings a.k in
     c.close.ensures
-    ∙ first-still s a.bar a.c a.lots c.arrive-arrived.result c.close-u.result c.close-u.ensures c.in-Nothing.is
+    ∙ first-still s a.bar a.c a.lots c.arrive-arrived.result c.close-u.result c.close-u.ensures c.in-None.is
     ∙ closes a.bar a.c a.lots a.h (c.arrive-arrived.ensures a.lots) s (ne_eqb _ _ c.if-c-eq-LO.false) (ne_eqb _ _ c.if-c-eq-SO.false)
 
-pub returns-in-One : goal.returns-in-One
-returns-in-One c =
+pub returns-in-Some : goal.returns-in-Some
+returns-in-Some c =
     let a = c.args in
     let s = of_settings a.k in
-    first-wrote s a.bar a.c a.lots c.arrive-arrived.result c.close-u.result _ c.close-u.ensures c.in-One.is
+    first-wrote s a.bar a.c a.lots c.arrive-arrived.result c.close-u.result _ c.close-u.ensures c.in-Some.is
     ∙ closes a.bar a.c a.lots a.h (c.arrive-arrived.ensures a.lots) s (ne_eqb _ _ c.if-c-eq-LO.false) (ne_eqb _ _ c.if-c-eq-SO.false)

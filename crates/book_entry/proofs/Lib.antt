@@ -1,2 +1,0 @@
--- Laws of a book's holds and records in code.
-pub mod Laws

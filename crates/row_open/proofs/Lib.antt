@@ -1,0 +1,2 @@
+-- The laws of opening a book for its rows.
+pub mod Laws

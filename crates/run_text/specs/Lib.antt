@@ -1,0 +1,2 @@
+-- The definitions that the contracts of `run_text` cite.
+pub mod Refused

@@ -1,2 +1,0 @@
--- The proofs of `test_console`.
-pub mod Laws

@@ -1,2 +1,0 @@
--- What a number that was read means.
-pub mod Read
