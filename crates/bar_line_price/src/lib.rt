@@ -46,15 +46,7 @@ fn power(k: usize) -> u64
     requires { k ≤ 6 }
     ensures { result ≡ 10 ^ k }
 {
-    match k {
-        0 => 1,
-        1 => 10,
-        2 => 100,
-        3 => 1_000,
-        4 => 10_000,
-        5 => 100_000,
-        _ => 1_000_000,
-    }
+    10u64.pow(k as u32)
 }
 
 // The double of a number whose last k digits stand behind the point.
