@@ -7,7 +7,7 @@ use lib.ListN.{length}
 use Rattle.sheet.specs.Places.{clause_numbers, sheet_at, SheetOk}
 use Rattle.sheet.specs.declared.SheetAt.{SheetAt}
 use Rattle.table_limits.specs.Fine.{fine_sheet}
-use Rattle.table_wordbook.specs.declared.Words.{Words}
+use Rattle.table_wordbook.specs.Wordbook.{Words}
 use Rattle.table_parts.specs.Draft.{Drafted}
 use Rattle.table_parts.proofs.Known.{clauses-light}
 use Rattle.table_codes.specs.Read.{RowsOk, KeysNoted, ValuesCoded}
@@ -18,8 +18,8 @@ module _ {s es cs : List ℕ} {a : SheetAt} (ok : SheetOk s es cs a) where
   sheet-rows f h = record { rows = h; clauses = ok.clauses; light = clauses-light ok f }
 
   -- two books and their numbers
-  pub drafted : {numbers codes numbers₁ codes₁ : List ℕ} {ks vs : Words} → KeysNoted s cs a.clauses numbers ks numbers₁
-      → ValuesCoded s cs a.clauses codes vs codes₁ → Drafted s es cs a numbers₁ codes₁ ks vs
+  pub drafted : {numbers codes numbers₁ codes₁ : List ℕ} {ks vs ks₁ vs₁ : Words} → KeysNoted s cs a.clauses ks numbers ks₁ numbers₁
+      → ValuesCoded s cs a.clauses vs codes vs₁ codes₁ → Drafted s es cs a numbers₁ codes₁ ks₁ vs₁
   drafted k v = record {
     sheet = ok;
     keys = k.book;

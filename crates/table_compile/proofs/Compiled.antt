@@ -17,7 +17,7 @@ use Rattle.table.specs.Layout.{table_length}
 use Rattle.table.specs.Compile.{compile_do, Means}
 use Rattle.table_layout.specs.Build.{table_of}
 use Rattle.table_layout.proofs.Table.{table_means}
-use Rattle.table_wordbook.specs.declared.Words.{Words}
+use Rattle.table_wordbook.specs.Wordbook.{Words}
 use Rattle.table_parts.specs.Draft.{draft, Drafted}
 use Rattle.table_parts.proofs.Right.{draft-ok, draft_means, draft-sized}
 use Rattle.table_compile.specs.declared.CompileError.{CompileError}

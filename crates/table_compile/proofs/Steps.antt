@@ -1,19 +1,21 @@
 -- What each step of compiling asks follows from the steps before it. Assumes nothing.
-use Prim.Native.Nat.{ℕ, ◌*◌, ◌≤◌}
+use Prim.Native.Nat.{ℕ, suc, ◌*◌, ◌<◌, ◌≤◌}
 use native.Mathlib.Omega.{arith}
 use mathlib.Core.List.{List}
-use mathlib.Core.Path.{◌≡◌, refl, sym}
-use lib.ListN.{length}
+use mathlib.Core.Path.{◌≡◌, sym, ap, ◌∙◌}
+use lib.ListN.{length, get_or, replicate, length-replicate}
 use Rattle.std.specs.Prelude.{Ok}
+use Rattle.std.specs.Borrow.{MutBor}
+use Rattle.utf8.specs.Alone.{text_limit}
 use Rattle.sheet.specs.Sheet.{event_limit, clause_limit}
 use Rattle.sheet.specs.Places.{clause_numbers, event_numbers, sheet_at, SheetAs}
 use Rattle.sheet.specs.declared.SheetAt.{SheetAt}
 use Rattle.table_limits.proofs.Theorem.{sheet-fine}
 use Rattle.table.specs.Compile.{Means}
 use Rattle.table_layout.specs.Build.{table_of}
-use Rattle.table_wordbook.specs.Wordbook.{word_limit, no_words}
-use Rattle.table_wordbook.specs.declared.Words.{Words}
-use Rattle.table_wordbook.proofs.Books.{no_words-book}
+use Rattle.table_wordbook.specs.Wordbook.{Words, book_words}
+use Rattle.table_wordbook.specs.Read.{NewIn}
+use Rattle.table_wordbook.specs.declared.Wordbook.{Wordbook}
 use Rattle.table_parts.specs.Draft.{draft, Drafted}
 use Rattle.table_parts.proofs.Right.{draft-sized}
 use Rattle.table_codes.specs.Read.{RowsOk, Room, KeysNoted, ValuesCoded}
@@ -37,25 +39,44 @@ sheet-done {s} {es} {cs} {a} r e c =
 pub sheet-clauses : {s es cs : List ℕ} {a : SheetAt} → SheetDone s es cs a → RowsOk s cs a.clauses
 sheet-clauses d = sheet-rows d.ok d.fine (omega (arith, d.clauses-room, d.ok.short))
 
--- a fresh book has room
-pub fresh-room : {b : Words} {numbers : List ℕ} {m : ℕ} → b ≡ no_words → m ≤ word_limit → m ≤ length numbers → Room b numbers m
-fresh-room e h k = record { book = rw e no_words-book; empty = rw e refl; few = h; numbers_room = k }
+-- a new book in fresh buffers has room for n words
+module _ {starts orders ranks : MutBor (List ℕ)} {b : Wordbook} (w : NewIn starts orders ranks b) where
+  pub fresh-room : (n m : ℕ) → starts.now ≡ replicate (suc n) 0 → orders.now ≡ replicate n 0 → ranks.now ≡ replicate n 0 → n < 65536 → m ≤ n
+      → Room (book_words (replicate text_limit 0) b) (replicate n 0) m
+  fresh-room n m s o r h k =
+      let texts-are = length-replicate {A = ℕ} text_limit 0 in
+      let words-are = length-replicate {A = ℕ} n 0 in
+      let starts-are = ap length (w.starts.1 ∙ s) ∙ length-replicate {A = ℕ} (suc n) 0 in
+      let orders-are = ap length (w.orders.1 ∙ o) ∙ words-are in
+      let ranks-are = ap length (w.ranks.1 ∙ r) ∙ words-are in
+      record {
+        empty = w.empty;
+        first = ap (λ l. get_or l 0 0) (w.starts.1 ∙ s);
+        few = omega arith;
+        texts-room = omega (arith, texts-are);
+        starts-room = omega (arith, starts-are);
+        orders-room = omega (arith, orders-are);
+        ranks-room = omega (arith, ranks-are);
+        numbers_room = omega (arith, words-are);
+      }
 
 -- its keys and values are noted
-module _ {s es cs : List ℕ} {a : SheetAt} (d : SheetDone s es cs a) {numbers codes numbers₁ codes₁ : List ℕ} {ks vs : Words}
-    (k : KeysNoted s cs a.clauses numbers ks numbers₁) (v : ValuesCoded s cs a.clauses codes vs codes₁) where
-  noted : Drafted s es cs a numbers₁ codes₁ ks vs
+module _ {s es cs : List ℕ} {a : SheetAt} (d : SheetDone s es cs a) {numbers codes numbers₁ codes₁ : List ℕ} {ks vs ks₁ vs₁ : Words}
+    (k : KeysNoted s cs a.clauses ks numbers ks₁ numbers₁) (v : ValuesCoded s cs a.clauses vs codes vs₁ codes₁) where
+  noted : Drafted s es cs a numbers₁ codes₁ ks₁ vs₁
   noted = drafted d.ok k v
 
-  -- the table can be written
-  pub noted-fit : length numbers ≡ clause_limit → length codes ≡ 3 * clause_limit → TableFits s es cs a numbers₁ codes₁ ks vs
-  noted-fit hn hc =
-      table_fits noted (draft-sized noted d.fine)
-      (omega (arith, d.events-room, d.ok.few))
-      (omega (arith, d.clauses-room, d.ok.short))
-      (omega (arith, k.numbers_length, hn, d.ok.short))
-      (omega (arith, v.numbers_length, hc, d.ok.short))
+  -- the table can be written of the words that stand in both books
+  module _ {kw vw : Words} (kr : kw ≡ ks₁) (vr : vw ≡ vs₁) where
+    pub noted-fit : length numbers ≡ clause_limit → length codes ≡ 3 * clause_limit → TableFits s es cs a numbers₁ codes₁ kw vw
+    noted-fit hn hc =
+        rw (kr, vr)
+        (table_fits noted (draft-sized noted d.fine)
+        (omega (arith, d.events-room, d.ok.few))
+        (omega (arith, d.clauses-room, d.ok.short))
+        (omega (arith, k.numbers_length, hn, d.ok.short))
+        (omega (arith, v.numbers_length, hc, d.ok.short)))
 
-  -- and means the sheet
-  pub noted_mean : {after : List ℕ} → after ≡ table_of (draft s es cs a numbers₁ codes₁ ks vs) → Means after (sheet_at s es cs a)
-  noted_mean e = written_means noted d.fine e
+    -- and means the sheet
+    pub noted_mean : {after : List ℕ} → after ≡ table_of (draft s es cs a numbers₁ codes₁ kw vw) → Means after (sheet_at s es cs a)
+    noted_mean e = written_means noted d.fine (rw (kr, vr) at e)

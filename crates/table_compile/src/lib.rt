@@ -16,8 +16,14 @@ use signal::SignalError;
 use table::TABLE_LENGTH;
 use table_codes::note_keys;
 use table_codes_values::note_values;
-use table_wordbook::Words;
+use table_wordbook::Wordbook;
 use table_write::put_table;
+
+// The most bytes of the keys' texts together, and of the values': as many as a sheet has.
+const TEXTS_LIMIT: usize = 16_384;
+
+// The most values, three for each clause.
+const VALUE_LIMIT: usize = 3 * CLAUSE_LIMIT;
 
 // Why a text is not compiled.
 #[derive(Clone, Copy)]
@@ -59,12 +65,22 @@ fn write(table: &mut [u8], s: &[u8], es: &[u16], cs: &[u16], a: SheetAt)
     requires sheet_done { SheetDone s.now es.now cs.now a }
     ensures { Means table.new (sheet_at s.now es.now cs.now a) }
 {
-    let mut keys = Words::new();
+    let mut keytexts = [0u8; TEXTS_LIMIT];
+    let mut starts = [0u16; CLAUSE_LIMIT + 1];
+    let mut orders = [0u16; CLAUSE_LIMIT];
+    let mut ranks = [0u16; CLAUSE_LIMIT];
+    let mut keys = Wordbook::new(&mut starts, &mut orders, &mut ranks);
     let mut numbers = [0u16; CLAUSE_LIMIT];
-    note_keys(s, cs, a.clauses, &mut keys, &mut numbers);
-    let mut values = Words::new();
-    let mut codes = [0u16; 3 * CLAUSE_LIMIT];
-    note_values(s, cs, a.clauses, &mut values, &mut codes);
+    note_keys(s, cs, a.clauses, &mut keytexts, &mut keys, &mut numbers);
+    let mut valuetexts = [0u8; TEXTS_LIMIT];
+    let mut starts = [0u16; VALUE_LIMIT + 1];
+    let mut orders = [0u16; VALUE_LIMIT];
+    let mut ranks = [0u16; VALUE_LIMIT];
+    let mut values = Wordbook::new(&mut starts, &mut orders, &mut ranks);
+    let mut codes = [0u16; VALUE_LIMIT];
+    note_values(s, cs, a.clauses, &mut valuetexts, &mut values, &mut codes);
+    let keys = keys.words(&keytexts);
+    let values = values.words(&valuetexts);
     put_table(table, s, es, cs, a, &numbers, &codes, &keys, &values);
 }
 

@@ -13,8 +13,7 @@ use Rattle.sheet.specs.declared.SheetAt.{SheetAt}
 use Rattle.table_limits.specs.Fine.{fine_sheet}
 use Rattle.table.specs.Table.{parts_ok, sheet_of}
 use Rattle.table_parts.specs.Codes.{noted_all, numbers_of, values_noted, codes_of}
-use Rattle.table_wordbook.specs.declared.Words.{Words}
-use Rattle.table_wordbook.specs.Wordbook.{BookOf}
+use Rattle.table_wordbook.specs.Wordbook.{Words, BookOf}
 use Rattle.table_parts.specs.Draft.{draft, Drafted}
 use Rattle.table_parts.proofs.Opened.{opened}
 

@@ -17,8 +17,7 @@ use Rattle.table_limits.specs.Fine.{clauses_weight, fine_clause, fine_event, fin
 use Rattle.table_limits.proofs.Facts.{event_facts, sheet_facts}
 use Rattle.table_limits.proofs.Clauses.{all-fine, all-weight}
 use Rattle.table_parts.specs.Codes.{keys_in, values_in}
-use Rattle.table_wordbook.specs.declared.Words.{Words}
-use Rattle.table_wordbook.specs.Wordbook.{words_of}
+use Rattle.table_wordbook.specs.Wordbook.{Words, words_of}
 use Rattle.table_parts.specs.Draft.{clause_row, clause_rows, Drafted}
 use Rattle.table_parts.proofs.Codes.{all-every, values-every}
 use Rattle.table_parts.proofs.Rows.{every-numbered}

@@ -16,7 +16,7 @@ use Rattle.table_limits.specs.Fine.{fine_sheet}
 use Rattle.table_limits.proofs.Facts.{sheet_facts}
 use Rattle.table.specs.Table.{settings_ok, parts_ok, sheet_of}
 use Rattle.table_layout.specs.Fits.{Sized}
-use Rattle.table_wordbook.specs.declared.Words.{Words}
+use Rattle.table_wordbook.specs.Wordbook.{Words}
 use Rattle.table_parts.specs.Draft.{word_rows, event_row, draft, Drafted}
 use Rattle.table_parts.proofs.Words.{word-texts, words-ok, words-fit, words_count, rows-count}
 use Rattle.table_parts.proofs.Clauses.{keys_to, values_to, few-keys, few-values, clauses_mean, clauses-ok, clauses-fit}

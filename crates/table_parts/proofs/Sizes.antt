@@ -14,7 +14,7 @@ use Rattle.text.proofs.Joined.{total}
 use Rattle.table_limits.proofs.Facts.{sheet_facts}
 use Rattle.table_limits.proofs.Clauses.{all-weight}
 use Rattle.table_parts.specs.Codes.{keys_in, values_in}
-use Rattle.table_wordbook.specs.declared.Words.{Words}
+use Rattle.table_wordbook.specs.Wordbook.{Words}
 use Rattle.table_parts.specs.Draft.{word_texts, names_at, Drafted}
 use Rattle.table_parts.proofs.Codes.{all_lighter, values_lighter}
 use Rattle.table_parts.proofs.Words.{texts_total}

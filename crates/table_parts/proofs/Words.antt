@@ -15,13 +15,12 @@ use Rattle.text.proofs.Conditions.{◌also◌, none_left, sure}
 use Rattle.text.proofs.Laws.{part-size}
 use Rattle.table_words.specs.Words.{word_ok}
 use Rattle.text.proofs.Joined.{total}
-use Rattle.table_wordbook.specs.Wordbook.{word_at, words_at, Book, BookOf, words_of}
+use Rattle.table_wordbook.specs.Wordbook.{word_at, words_at, Book, Words, BookOf, words_of}
 use Rattle.table_wordbook.proofs.Books.{words-length, starts-rise, book_lined, book-distinct}
 use Rattle.table.specs.Layout.{word_text}
 use Rattle.table.specs.Table.{follow, words_ok}
 use Rattle.table_layout.specs.Fits.{WordFits, AllAt}
 use Rattle.table_layout.proofs.Sized.{all-numbered}
-use Rattle.table_wordbook.specs.declared.Words.{Words}
 use Rattle.table_parts.specs.Draft.{word_row, word_rows, word_texts}
 use Rattle.table_parts.proofs.Codes.{total_append}
 use Rattle.table_parts.proofs.Rows.{numbered-take, follow-numbered}

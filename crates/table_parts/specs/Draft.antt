@@ -6,8 +6,7 @@ use Rattle.list.specs.Numbered.{numbered}
 use Rattle.le.specs.Le.{part}
 use Rattle.sheet.specs.Places.{clause_numbers, event_numbers, clauses_at, SheetOk}
 use Rattle.sheet.specs.declared.SheetAt.{SheetAt}
-use Rattle.table_wordbook.specs.Wordbook.{BookOf, words_of}
-use Rattle.table_wordbook.specs.declared.Words.{Words}
+use Rattle.table_wordbook.specs.Wordbook.{Words, BookOf, words_of}
 use Rattle.table.specs.Layout.{Parts}
 use Rattle.table.specs.declared.EventRow.{EventRow}
 use Rattle.table.specs.declared.ClauseRow.{ClauseRow}

@@ -5,5 +5,6 @@ pub mod Seeking
 pub mod Entering
 pub mod Books
 pub mod Candidates
+pub mod Buffers
 mod Examples
 pub mod Opened

@@ -10,8 +10,7 @@ use Rattle.table.specs.declared.Places.{Places}
 use Rattle.table_layout.specs.Fits.{SettingsFit, EventFits, Sized}
 use Rattle.table_layout.proofs.Table.{used_fits}
 use Rattle.table_layout.proofs.Sized.{numbered-all}
-use Rattle.table_wordbook.specs.Wordbook.{Book}
-use Rattle.table_wordbook.specs.declared.Words.{Words}
+use Rattle.table_wordbook.specs.Wordbook.{Words, Book}
 use Rattle.table_parts.specs.Draft.{event_row, names_length, draft, Drafted}
 use Rattle.table_write_rows.specs.Rows.{WordsFit}
 use Rattle.table_write_head.specs.Head.{settings_of}

@@ -5,7 +5,7 @@ use mathlib.Core.List.{List, [], ◌∷◌}
 use lib.ListN.{length, get_or, drop}
 use Rattle.text.specs.Literal.{bytes}
 use Rattle.sheet.specs.declared.SheetAt.{SheetAt}
-use Rattle.table_wordbook.specs.declared.Words.{Words}
+use Rattle.table_wordbook.specs.Wordbook.{Words}
 use Rattle.table_parts.specs.Draft.{names_length}
 use Rattle.table_write.specs.Fits.{TableFits}
 use Rattle.table_write.proofs.Opened.{opened}

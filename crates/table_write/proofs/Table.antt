@@ -13,8 +13,7 @@ use Rattle.le.specs.Field.{put32}
 use Rattle.table.specs.Layout.{table_length, layout_number, Parts}
 use Rattle.table_layout.specs.Build.{event_bytes, clause_bytes, word_bytes, row_bytes, settings_bytes, counts_bytes, places_bytes, counts_for, places_for, head_bytes, body_bytes, used_bytes, table_of}
 use Rattle.table_layout.proofs.Fill.{put_table}
-use Rattle.table_wordbook.specs.Wordbook.{words_length}
-use Rattle.table_wordbook.specs.declared.Words.{Words}
+use Rattle.table_wordbook.specs.Wordbook.{Words, words_length}
 use Rattle.table_parts.specs.Draft.{word_row, word_rows, word_texts, clause_row, clause_rows, names_at, names_length, event_row, event_rows, draft}
 use Rattle.table_parts.proofs.Events.{names-within}
 use Rattle.table_write_rows.specs.Rows.{PutOf}

@@ -7,8 +7,7 @@ use Rattle.table.specs.Layout.{table_length}
 use Rattle.table.specs.declared.Places.{Places}
 use Rattle.table_layout.specs.Build.{places_of}
 use Rattle.table_layout.specs.Fits.{SettingsFit}
-use Rattle.table_wordbook.specs.Wordbook.{words_length}
-use Rattle.table_wordbook.specs.declared.Words.{Words}
+use Rattle.table_wordbook.specs.Wordbook.{Words, words_length}
 use Rattle.table_parts.specs.Draft.{names_length}
 use Rattle.table_write_rows.specs.Rows.{EventsFit, ClausesFit, WordsFit}
 use Rattle.table_write_head.specs.Head.{settings_of, counts_of}

@@ -10,7 +10,7 @@ ghost use Rattle.text.specs.Read.{Part, Put};
 ghost use Rattle.sheet.specs.Places.{event_numbers};
 ghost use Rattle.table.specs.Layout.{table_length, event_length, clause_length};
 ghost use Rattle.table_layout.specs.Build.{event_bytes, clause_bytes, row_bytes, table_of};
-ghost use Rattle.table_wordbook.specs.Wordbook.{words_length};
+ghost use Rattle.table_wordbook.specs.Wordbook.{words_length, lent_words};
 ghost use Rattle.table_parts.specs.Draft.{clause_rows, event_rows, names_at, names_length, word_texts, draft};
 ghost use Rattle.table_write_rows.specs.Rows.{PutOf, EventsFit, ClausesFit};
 ghost use Rattle.table_write.specs.Fits.{NamesFit, TextsFit, TableFits};
@@ -98,17 +98,17 @@ fn put_texts(
     keys: &Words,
     values: &Words,
 ) -> usize
-    requires texts_fit { TextsFit s.now es.now a keys.now values.now }
-    requires keys_end { keys.now.count < length keys.now.starts }
-    requires values_end { values.now.count < length values.now.starts }
-    requires texts_in_bounds { at + (a.name - 2) + (a.symbol - (a.name + 1)) + names_length es.now a.events + words_length keys.now + words_length values.now ≤ length dst.old }
-    ensures { Put dst.old dst.new at (slice 2 a.name s.now ++ slice (a.name + 1) a.symbol s.now ++ names_at s.now es.now a.events ++ word_texts keys.now ++ word_texts values.now) result }
+    requires texts_fit { TextsFit s.now es.now a (lent_words keys.now) (lent_words values.now) }
+    requires keys_end { keys.now.count < length keys.now.starts.now }
+    requires values_end { values.now.count < length values.now.starts.now }
+    requires texts_in_bounds { at + (a.name - 2) + (a.symbol - (a.name + 1)) + names_length es.now a.events + words_length (lent_words keys.now) + words_length (lent_words values.now) ≤ length dst.old }
+    ensures { Put dst.old dst.new at (slice 2 a.name s.now ++ slice (a.name + 1) a.symbol s.now ++ names_at s.now es.now a.events ++ word_texts (lent_words keys.now) ++ word_texts (lent_words values.now)) result }
 {
     let p = put_text(dst, at, s, 2, a.name);
     let p = put_text(dst, p, s, a.name + 1, a.symbol);
     let p = put_names(dst, p, s, es, a.events);
-    let p = put_text(dst, p, &keys.texts, 0, keys.end());
-    put_text(dst, p, &values.texts, 0, values.end())
+    let p = put_text(dst, p, keys.texts, 0, keys.end());
+    put_text(dst, p, values.texts, 0, values.end())
 }
 
 // Writes the table of a sheet that was read from s: es and cs have the numbers of its events and clauses, `numbers` and `codes` their keys
@@ -125,8 +125,8 @@ pub fn put_table(
     values: &Words,
 )
     requires table_len { length table.old ≡ table_length }
-    requires table_fits { TableFits s.now es.now cs.now a numbers.now codes.now keys.now values.now }
-    ensures { table.new ≡ table_of (draft s.now es.now cs.now a numbers.now codes.now keys.now values.now) }
+    requires table_fits { TableFits s.now es.now cs.now a numbers.now codes.now (lent_words keys.now) (lent_words values.now) }
+    ensures { table.new ≡ table_of (draft s.now es.now cs.now a numbers.now codes.now (lent_words keys.now) (lent_words values.now)) }
 {
     clear(table);
     let k = keys.count;
@@ -134,7 +134,7 @@ pub fn put_table(
     let names = names_length(es, a.events);
     let p = put_head(table, 0, a, k, v, names, keys.end(), values.end());
     let p = put_rows(table, p, es, cs, a, numbers, codes);
-    let p = put_words(table, p, &keys.starts, &keys.orders, &keys.ranks, k);
-    let p = put_words(table, p, &values.starts, &values.orders, &values.ranks, v);
+    let p = put_words(table, p, keys.starts, keys.orders, keys.ranks, k);
+    let p = put_words(table, p, values.starts, values.orders, values.ranks, v);
     put_texts(table, p, s, es, a, keys, values);
 }

@@ -9,4 +9,5 @@ note_value-requires c =
 
 pub returns : goal.returns
 returns c =
-    rw (value_stands c.args.s.now c.args.cs.now c.args.j c.requires.row_ok).is at c.note_value.ensures
+    let x = value_stands c.args.s.now c.args.cs.now c.args.j c.requires.row_ok in
+    record { same_buffers = c.note_value.ensures.same_buffers; added = rw x.is at c.note_value.ensures.added }

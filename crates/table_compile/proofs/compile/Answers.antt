@@ -1,4 +1,5 @@
 -- `table_compile::compile` meets its contract: the sheet is read, then the table is written. Assumes nothing.
+use borrow.Author.Rules.{rules}
 use Rattle.std.proofs.lemmas.Result.{err_from_is_err_and}
 use Rattle.table_compile.proofs.Compiled.{wrong_length, refused, done}
 use Rattle.table_compile.proofs.Steps.{sheet-done}
@@ -14,7 +15,7 @@ returns-in_err-a c =
 
 pub write-requires : goal.write-requires
 write-requires c =
-    record { table_len = c.if-table-ne-TABLE_LENGTH.false; sheet_done = sheet-done c.in_ok-a.ensures c.read_sheet.auto.events c.read_sheet.auto.clauses }
+    record { table_len = search rules; sheet_done = sheet-done c.in_ok-a.ensures (search rules) (search rules) }
 
 pub returns : goal.returns
 returns c = done c.if-table-ne-TABLE_LENGTH.false c.in_ok-a.ensures c.write.ensures
