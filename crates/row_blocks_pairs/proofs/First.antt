@@ -27,10 +27,10 @@ map-none f (x ∷ xs) zero e = cc
 map-none f (x ∷ xs) (suc i) e = map-none f xs i e
 
 module _ (s : Sheet) {c : ℕ} {b : List ℕ} {i : ℕ} where
-  pub first-none : FoundAs c b i None → slice_get (pair_block s c b) i ≡ None
+  pub first-none : FoundAs c b 0 i None → slice_get (pair_block s c b) i ≡ None
   first-none f = map-none pair_row_bytes (pairs_of s (records_of c b)) i (found_none s f)
 
-  module _ {j : ℕ} (f : FoundAs c b i (Some j)) where
+  module _ {j : ℕ} (f : FoundAs c b 0 i (Some j)) where
     pub first_some : slice_get (pair_block s c b) i ≡ Some (pair_row_bytes (pair_from s c b j))
     first_some = map_some pair_row_bytes (pairs_of s (records_of c b)) i (pair_from s c b j) (found_some s f)
 
@@ -38,4 +38,4 @@ module _ (s : Sheet) {c : ℕ} {b : List ℕ} {i : ℕ} where
     pub first_rows : {before after : List ℕ} {q : Block} → Filled (rows_at s c b j) before after q → Filled (drop i (pair_block s c b)) before after q
     first_rows {before} {after} {q} w =
         subst (λ (l : List (List ℕ)). Filled l before after q)
-        (sym (map-drop pair_row_bytes (pairs_of s (records_of c b)) i ∙ ap (map pair_row_bytes) (f.is s ∙ sym (pairs-opened c b j f.ok.0 (sym f.ok.1) s)))) w
+        (sym (map-drop pair_row_bytes (pairs_of s (records_of c b)) i ∙ ap (map pair_row_bytes) (f.is s ∙ sym (pairs-opened c b j f.ok.1 (sym f.ok.2) s)))) w

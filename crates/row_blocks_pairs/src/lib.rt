@@ -68,7 +68,7 @@ fn rows_from(t: &[u8], b: &[u8], c: u32, i: i64, out: &mut [u8]) -> Result<Block
     ensures { BlockAs (block_from (pair_block (sheet_of (parts_in t.now)) c b.now) i (length out.old)) out.old out.new result }
 {
     let k = index_of(i)?;
-    let first = find_pair(b, c, k).ok_or(RowError::PastLast)?;
+    let first = find_pair(b, c, 0, k).ok_or(RowError::PastLast)?;
     Ok(put_rows(t, b, c, first, out))
 }
 

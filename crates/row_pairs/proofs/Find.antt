@@ -71,9 +71,10 @@ none_left (x ∷ xs) (suc i) e = none_left xs i e
 
 -- ---- the loop: before record number j, the pairs from number i on are those from number `left` on of what is left
 
-pub record Seeking (c : ℕ) (b : List ℕ) (i left j : ℕ) : Type 0 where
+pub record Seeking (c : ℕ) (b : List ℕ) (from i left j : ℕ) : Type 0 where
+  pub begun : from ≤ j
   pub le : j ≤ u32 b 4
-  pub still : (s : Sheet) → drop i (pairs_of s (records_of c b)) ≡ drop left (pairs_of s (drop j (records_of c b)))
+  pub still : (s : Sheet) → drop i (pairs_of s (drop from (records_of c b))) ≡ drop left (pairs_of s (drop j (records_of c b)))
 
 -- the pairs of the records from number j on
 module _ (c : ℕ) (b : List ℕ) (j : ℕ) where
@@ -97,37 +98,37 @@ module _ (c : ℕ) (b : List ℕ) (j : ℕ) where
         ap (pairs_of s) both ∙ pairs_past s (record_at c b j) (record_at c b (j + 1)) (drop (j + 1 + 1) (records_of c b)) (sym e)
         ∙ ap (pairs_of s) (sym rest)
 
-module _ {c : ℕ} {b : List ℕ} {i left j : ℕ} (r : Seeking c b i left j) where
-  pub seeking_last : u32 b 4 ≤ j + 1 → FoundAs c b i None
+module _ {c : ℕ} {b : List ℕ} {from i left j : ℕ} (r : Seeking c b from i left j) where
+  pub seeking_last : u32 b 4 ≤ j + 1 → FoundAs c b from i None
   seeking_last h = record {
     is = λ s. r.still s ∙ ap (drop left) (pairs-last c b j h s) ∙ drop_of_length-le [] {i = left} (omega arith);
     ok = tt;
   }
 
   module _ (more : j + 1 < u32 b 4) where
-    pub seeking_hit : true ≡ opens (record_at c b j) → left ≡ 0 → FoundAs c b i (Some j)
+    pub seeking_hit : true ≡ opens (record_at c b j) → left ≡ 0 → FoundAs c b from i (Some j)
     seeking_hit e z = record {
       is = λ s. r.still s ∙ ap (λ (k : ℕ). drop k (pairs_of s (drop j (records_of c b)))) z ∙ pairs-opened c b j more e s;
-      ok = (more, sym e);
+      ok = (r.begun, more, sym e);
     }
 
     -- one record further
-    next : {k : ℕ} → ((s : Sheet) → drop left (pairs_of s (drop j (records_of c b))) ≡ drop k (pairs_of s (drop (j + 1) (records_of c b)))) → Seeking c b i k (j + 1)
-    next {k} e = record { le = omega arith; still = λ s. r.still s ∙ e s }
+    next : {k : ℕ} → ((s : Sheet) → drop left (pairs_of s (drop j (records_of c b))) ≡ drop k (pairs_of s (drop (j + 1) (records_of c b)))) → Seeking c b from i k (j + 1)
+    next {k} e = record { begun = omega (arith, r.begun); le = omega arith; still = λ s. r.still s ∙ e s }
 
-    pub seeking_opened : true ≡ opens (record_at c b j) → (left ≡ 0 → ⊥) → Seeking c b i (left - 1) (j + 1)
+    pub seeking_opened : true ≡ opens (record_at c b j) → (left ≡ 0 → ⊥) → Seeking c b from i (left - 1) (j + 1)
     seeking_opened e z =
         let n : left ≡ suc (left - 1) = omega (arith, z) in
         next (λ s. ap (λ (k : ℕ). drop k (pairs_of s (drop j (records_of c b)))) n ∙ ap (drop (suc (left - 1))) (pairs-opened c b j more e s))
 
-    pub seeking_passed : false ≡ opens (record_at c b j) → Seeking c b i left (j + 1)
+    pub seeking_passed : false ≡ opens (record_at c b j) → Seeking c b from i left (j + 1)
     seeking_passed e = next (λ s. ap (drop left) (pairs-passed c b j more e s))
 
 -- ---- the pair with an index
 
 module _ {c : ℕ} {b : List ℕ} {i : ℕ} (s : Sheet) where
-  pub found_none : FoundAs c b i None → slice_get (pairs_of s (records_of c b)) i ≡ None
+  pub found_none : FoundAs c b 0 i None → slice_get (pairs_of s (records_of c b)) i ≡ None
   found_none f = none_left (pairs_of s (records_of c b)) i (f.is s)
 
-  pub found_some : {j : ℕ} → FoundAs c b i (Some j) → slice_get (pairs_of s (records_of c b)) i ≡ Some (pair_from s c b j)
+  pub found_some : {j : ℕ} → FoundAs c b 0 i (Some j) → slice_get (pairs_of s (records_of c b)) i ≡ Some (pair_from s c b j)
   found_some f = next-at (pairs_of s (records_of c b)) i (f.is s)

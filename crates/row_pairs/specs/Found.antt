@@ -29,15 +29,15 @@ abbrev pub found_of : Sheet → ℕ → List ℕ → Option ℕ → List Pair
 found_of s c b (Some j) = pair_from s c b j ∷ pairs_of s (drop (j + 1) (records_of c b))
 found_of s c b None = []
 
--- a record that opens, with one behind it
-abbrev pub Opening : ℕ → List ℕ → Option ℕ → Type 0
-Opening c b (Some j) = (j + 1 < u32 b 4) × (opens (record_at c b j) ≡ true)
-Opening c b None = Unit {0}
+-- a record from number `from` on that opens, with one behind it
+abbrev pub Opening : ℕ → List ℕ → ℕ → Option ℕ → Type 0
+Opening c b from (Some j) = (from ≤ j) × (j + 1 < u32 b 4) × (opens (record_at c b j) ≡ true)
+Opening c b from None = Unit {0}
 
--- r is where pair number i of a book of c bars starts, for every sheet
-pub record FoundAs (c : ℕ) (b : List ℕ) (i : ℕ) (r : Option ℕ) : Type 0 where
-  pub is : (s : Sheet) → drop i (pairs_of s (records_of c b)) ≡ found_of s c b r
-  pub ok : Opening c b r
+-- r is where pair number i of the records from number `from` on starts, for every sheet
+pub record FoundAs (c : ℕ) (b : List ℕ) (from i : ℕ) (r : Option ℕ) : Type 0 where
+  pub is : (s : Sheet) → drop i (pairs_of s (drop from (records_of c b))) ≡ found_of s c b r
+  pub ok : Opening c b from r
 
 -- what a row asks of a record, with n events in the table
 pub record Shown (n : ℕ) (r : Record) : Type 0 where

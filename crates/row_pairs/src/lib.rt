@@ -57,14 +57,15 @@ pub fn opens_at(b: &[u8], c: u32, j: usize) -> bool
     is_opening(b[HEAD_LENGTH + ENTRY_LENGTH * (c as usize) + ENTRY_LENGTH * j + OPERATE])
 }
 
-// Where pair number i of a book of c bars starts: a record that opens, with one behind it.
-pub fn find_pair(b: &[u8], c: u32, i: usize) -> Option<usize>
-    requires { record_place c (u32 b.now 4) ≤ length b.now }
-    ensures { FoundAs c b.now i result }
+// Where pair number i of the records from number `from` on starts, of a book of c bars: a record that opens, with one behind it.
+pub fn find_pair(b: &[u8], c: u32, from: usize, i: usize) -> Option<usize>
+    requires b_in_bounds { record_place c (u32 b.now 4) ≤ length b.now }
+    requires from_bound { from ≤ u32 b.now 4 }
+    ensures { FoundAs c b.now from i result }
 {
     let n = get_u32(b, 4) as usize;
     let mut left = i;
-    for j in 0..n.saturating_sub(1) {
+    for j in from..n.saturating_sub(1) {
         if opens_at(b, c, j) {
             if left == 0 {
                 return Some(j);
@@ -146,7 +147,7 @@ fn row_at(t: &[u8], b: &[u8], c: u32, i: i64, buffer: &mut [u8]) -> Result<PairR
     ensures { Answered (given 15 (row_at (pairs_of (sheet_of (parts_in t.now)) (records_of c b.now)) i)) buffer.old buffer.new result }
 {
     let k = index_of(i)?;
-    let j = find_pair(b, c, k).ok_or(RowError::PastLast)?;
+    let j = find_pair(b, c, 0, k).ok_or(RowError::PastLast)?;
     Ok(pair_at(t, b, c, j, buffer))
 }
 

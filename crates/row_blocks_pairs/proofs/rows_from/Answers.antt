@@ -24,11 +24,11 @@ returns-in_err-first c =
     let last : c.in_err-first.field-0.0 ≡ PastLast = grind arith in
     let s = sheet_of (parts_in c.args.t.now) in
     rw (p.1, p.2, last)
-    (block_past (pair_block s c.args.c c.args.b.now) _ c.ranges.i c.in_ok-k.ensures (first-none s (subst (FoundAs c.args.c c.args.b.now c.in_ok-k.k) none c.find_pair.ensures)))
+    (block_past (pair_block s c.args.c c.args.b.now) _ c.ranges.i c.in_ok-k.ensures (first-none s (subst (FoundAs c.args.c c.args.b.now 0 c.in_ok-k.k) none c.find_pair.ensures)))
 
 pub returns : goal.returns
 returns c =
     let some : c.find_pair.result ≡ Some c.in_ok-first.first = grind arith in
-    let found : FoundAs c.args.c c.args.b.now c.in_ok-k.k (Some c.in_ok-first.first) = subst (FoundAs c.args.c c.args.b.now c.in_ok-k.k) some c.find_pair.ensures in
+    let found : FoundAs c.args.c c.args.b.now 0 c.in_ok-k.k (Some c.in_ok-first.first) = subst (FoundAs c.args.c c.args.b.now 0 c.in_ok-k.k) some c.find_pair.ensures in
     let s = sheet_of (parts_in c.args.t.now) in
     block_rows (pair_block s c.args.c c.args.b.now) _ c.ranges.i c.in_ok-k.ensures (first_some s found) (first_rows s found c.put_rows.ensures)

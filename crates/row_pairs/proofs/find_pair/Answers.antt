@@ -8,7 +8,7 @@ use Rattle.row_pairs.proofs.find_pair.Goals as goal
 use Rattle.row_pairs.proofs.find_pair.Goals.{then-opens_at+else-left-eq0, else-opens_at}
 
 pub loop-j-init : goal.loop-j-init
-loop-j-init c = record { le = omega arith; still = λ s. refl }
+loop-j-init c = record { begun = omega arith; le = c.requires.from_bound; still = λ s. refl }
 
 pub returns-then-left-eq0 : goal.returns-then-left-eq0
 returns-then-left-eq0 c =

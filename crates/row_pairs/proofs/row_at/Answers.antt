@@ -24,16 +24,16 @@ returns-in_err-j c =
     let none : c.find_pair.result ≡ None = grind arith in
     let last : c.in_err-j.field-0.0 ≡ PastLast = grind arith in
     rw (p.1, p.2, last)
-    (answered-none _ (index_is _ c.ranges.i c.in_ok-k.ensures ∙ found_none (sheet_of (parts_in c.args.t.now)) (subst (FoundAs c.args.c c.args.b.now c.in_ok-k.k) none c.find_pair.ensures)))
+    (answered-none _ (index_is _ c.ranges.i c.in_ok-k.ensures ∙ found_none (sheet_of (parts_in c.args.t.now)) (subst (FoundAs c.args.c c.args.b.now 0 c.in_ok-k.k) none c.find_pair.ensures)))
 
 pub pair_at-requires : goal.pair_at-requires
 pair_at-requires c =
     let some : c.find_pair.result ≡ Some c.in_ok-j.j = grind arith in
-    let found : FoundAs c.args.c c.args.b.now c.in_ok-k.k (Some c.in_ok-j.j) = subst (FoundAs c.args.c c.args.b.now c.in_ok-k.k) some c.find_pair.ensures in
-    record { t_value = c.requires.t_value; traded = c.requires.traded; j_bound = found.ok.0; row_buffer_in_bounds = c.requires.row_buffer_in_bounds }
+    let found : FoundAs c.args.c c.args.b.now 0 c.in_ok-k.k (Some c.in_ok-j.j) = subst (FoundAs c.args.c c.args.b.now 0 c.in_ok-k.k) some c.find_pair.ensures in
+    record { t_value = c.requires.t_value; traded = c.requires.traded; j_bound = found.ok.1; row_buffer_in_bounds = c.requires.row_buffer_in_bounds }
 
 pub returns : goal.returns
 returns c =
     let some : c.find_pair.result ≡ Some c.in_ok-j.j = grind arith in
-    let found : FoundAs c.args.c c.args.b.now c.in_ok-k.k (Some c.in_ok-j.j) = subst (FoundAs c.args.c c.args.b.now c.in_ok-k.k) some c.find_pair.ensures in
+    let found : FoundAs c.args.c c.args.b.now 0 c.in_ok-k.k (Some c.in_ok-j.j) = subst (FoundAs c.args.c c.args.b.now 0 c.in_ok-k.k) some c.find_pair.ensures in
     answered-row (index_is _ c.ranges.i c.in_ok-k.ensures ∙ found_some (sheet_of (parts_in c.args.t.now)) found) c.pair_at.ensures
