@@ -7,13 +7,14 @@ use Rattle.std.proofs.lemmas.Option.{slice_get_past, slice_get-get_or}
 use Prim.Native.Nat.{ℕ, zero, suc, ◌+◌, ◌≤◌, ◌<◌}
 use native.Mathlib.Omega.{arith}
 use native.Mathlib.Numerals.{add-one}
+use borrow.Author.Tests.{lt-ltb, le-ltb}
 use lib.Pointwise.{pointwise}
 use lib.Dec.{eqb}
 use lib.ListN.{length, get_or, drop, drop_of_length-le}
 use lib.Seq.{drop-cons}
 use Rattle.text.specs.Answer.{Refused, Got, given}
 use Rattle.text.specs.Text.{same}
-use Rattle.operate.specs.Operate.{latin, chinese, code_from, operate_of, operate_name}
+use Rattle.operate.specs.Operate.{latin, chinese, code_from, operate_of, known, operate_name}
 use Rattle.operate.specs.declared.Operate.{Operate}
 use Rattle.operate.specs.declared.Operate.TheVariants.{HL, HS, HO, LO, LE, SO, SE}
 use Rattle.operate.specs.Read.{code_of, Name}
@@ -45,6 +46,29 @@ code_at (suc (suc (suc (suc (suc (suc (suc i))))))) h = absurd (omega arith)
 -- the name at a code that is known to be i
 pub at : (names : List (List ℕ)) (n i : ℕ) {r : List ℕ} (code : ℕ) → code ≡ i → r ≡ get_or names i [] → n ≡ length r → Name (get_or names code []) n r
 at names n i code e h k = record { is = rw e h; size = k }
+
+four : (n : ℕ) → (n ≡ 0 → ⊥) → (n ≡ 1 → ⊥) → (n ≡ 2 → ⊥) → (n ≡ 3 → ⊥) → 4 ≤ n
+four n a b c d = omega arith
+
+three_more : (n : ℕ) → 4 ≤ n → (n ≡ 4 → ⊥) → (n ≡ 5 → ⊥) → (n ≡ 6 → ⊥) → 7 ≤ n
+three_more n l a b c = omega arith
+
+-- a code that is none of the seven, as the last arm of a match has it
+pub past_arms : (n : ℕ)
+    → (((((((Unit {0} × (n ≡ 0 → ⊥)) × (n ≡ 1 → ⊥)) × (n ≡ 2 → ⊥)) × (n ≡ 3 → ⊥)) × (n ≡ 4 → ⊥)) × (n ≡ 5 → ⊥)) × (n ≡ 6 → ⊥))
+    → 7 ≤ n
+past_arms n r = three_more n (four n r.0.0.0.0.0.0.1 r.0.0.0.0.0.1 r.0.0.0.0.1 r.0.0.0.1) r.0.0.1 r.0.1 r.1
+
+pub known_is : (code : ℕ) → code < 7 → Got code ≡ known code
+unfolding known
+known_is code h = rw (lt-ltb code 7 h)
+
+pub known_at : (i code : ℕ) → code ≡ i → code < 7 → Got i ≡ known code
+known_at i code e h = ap Got (sym e) ∙ known_is code h
+
+pub known-not : (code : ℕ) → 7 ≤ code → Refused 4 ≡ known code
+unfolding known
+known-not code h = rw (le-ltb code 7 h)
 
 pub name-none : (code : ℕ) → 7 ≤ code → Refused 4 ≡ operate_name code
 unfolding operate_name

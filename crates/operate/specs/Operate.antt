@@ -1,6 +1,6 @@
 -- Operates: codes 0 to 6, each with two spellings. Assumes nothing.
-use Rattle.std.specs.Prelude.{ℕ, suc, cond, ◌||◌, List, [], ◌∷◌, Option, None, Some, slice_get}
-use Rattle.text.specs.Answer.{Answer, ◌>>=◌, given}
+use Rattle.std.specs.Prelude.{ℕ, suc, cond, ◌||◌, List, [], ◌∷◌, ltb, Option, None, Some, slice_get}
+use Rattle.text.specs.Answer.{Answer, Refused, Got, ◌>>=◌, given}
 use Rattle.text.specs.Literal.{bytes}
 use Rattle.text.specs.Text.{same}
 use Rattle.utf8.specs.Alone.{alone}
@@ -43,6 +43,10 @@ unfoldable pub operate_alone : List ℕ → Answer ℕ
 operate_alone s = do
   _ ← alone s
   operate_of s
+
+-- a code, or 4 for any other number
+unfoldable pub known : ℕ → Answer ℕ
+known n = cond (ltb n 7) (Got n) (Refused 4)
 
 -- "An operate code becomes its Chinese name (any other number: 4)"
 unfoldable pub operate_name : ℕ → Answer (List ℕ)

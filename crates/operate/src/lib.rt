@@ -3,7 +3,7 @@
 
 ghost use Rattle.std.specs.Prelude.{◌≡◌, ◌||◌, [], ◌<◌, eqb, get_or};
 ghost use Rattle.text.specs.Text.{same};
-ghost use Rattle.operate.specs.Operate.{LO as Operate-as-LO, SO as Operate-as-SO, latin as Operate·latin, chinese as Operate·chinese, operate_of, operate_alone};
+ghost use Rattle.operate.specs.Operate.{LO as Operate-as-LO, SO as Operate-as-SO, latin as Operate·latin, chinese as Operate·chinese, known, operate_of, operate_alone};
 ghost use Rattle.operate.specs.declared.OperateError.TheVariants as OperateError;
 ghost use Rattle.operate.specs.Read.{code_of, read_of, alone_of, Name};
 
@@ -68,6 +68,22 @@ pub fn to_chinese(code: u32) -> [u8; 6]
         5 => *b"\xe5\xbc\x80\xe7\xa9\xba",
         6 => *b"\xe5\xb9\xb3\xe7\xa9\xba",
         _ => unreachable!(),
+    }
+}
+
+// The operate of a code.
+pub fn of_code(code: u32) -> Option<Operate>
+    ensures { read_of result ≡ known code }
+{
+    match code {
+        0 => Some(Operate::HL),
+        1 => Some(Operate::HS),
+        2 => Some(Operate::HO),
+        3 => Some(Operate::LO),
+        4 => Some(Operate::LE),
+        5 => Some(Operate::SO),
+        6 => Some(Operate::SE),
+        _ => None,
     }
 }
 

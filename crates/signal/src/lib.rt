@@ -77,9 +77,9 @@ pub struct ValueAt {
 
 // The end of a key that is being written, and whether it has a part already.
 #[derive(Clone, Copy)]
-struct KeyEnd {
-    at: usize,
-    some: bool,
+pub struct KeyEnd {
+    pub at: usize,
+    pub some: bool,
 }
 
 // The underscore behind the part of s that starts at `from`, or none behind the last part.
