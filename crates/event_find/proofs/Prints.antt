@@ -5,13 +5,13 @@ use mathlib.Core.Bool.{Bool, true, false}
 use mathlib.Core.List.{List, [], ◌∷◌}
 use Prim.Native.Nat.{ℕ, ◌+◌, ◌-◌, ◌/◌, ◌≤◌, ◌<◌}
 use native.Mathlib.Omega.{arith}
-use lib.ListN.{length, get_or}
-use lib.Seq.{slice, length-slice}
+use lib.ListN.{length, get_or, take}
+use lib.Seq.{slice, length-slice, get_or-drop, get_or-take}
 use Rattle.le.specs.Le.{part, le_nat}
-use Rattle.le.proofs.Laws.{four}
+use Rattle.le.proofs.Laws.{four, part_lent}
 use Rattle.text.specs.Text.{same}
 use Rattle.text.specs.Read.{Part}
-use Rattle.text.proofs.Laws.{part_cons, part_nil, part_end}
+use Rattle.text.proofs.Laws.{part_cons, part_nil, part_end, part-size, part-take}
 use Rattle.text.proofs.Same.{same_eq}
 use Rattle.event_find.specs.Places.{mixed, print_from, print}
 use Rattle.event_find.specs.Steps.{Printing, PrintingEnd}
@@ -67,15 +67,41 @@ module _ {s : List ℕ} {from to h i : ℕ} (p : PrintingEnd s from to h i) wher
   unfolding print_from
   printing-last l = sym (ap (λ (x : ℕ). x / 65536) (p.printing.still ∙ rw (part_nil i to s l)))
 
--- ---- `is_key`
+-- ---- `ends_alike` and `is_key`
+
+-- unequal texts are not the same
+differ : (k t : List ℕ) → k ≢ t → false ≡ same k t
+differ k t n = go (same k t) refl
+  where
+    go : (b : Bool) → same k t ≡ b → false ≡ b
+    go true q = absurd (n (same_eq k t q))
+    go false q = refl
+
+module _ (k : List ℕ) {s : List ℕ} {from to : ℕ} (p : Part s from to) where
+  -- a part of another length
+  pub other_size : length k ≢ to - from → same k (slice from to s) ≡ false
+  other_size n = sym (differ k (slice from to s) (λ q. n (ap length q ∙ length-slice from to s p.within)))
+
+  -- a part with another byte at one place
+  pub other_byte : (i j : ℕ) → from + i ≡ j → j < to → get_or k i 0 ≢ get_or s j 0 → same k (slice from to s) ≡ false
+  other_byte i j e l n =
+      let b = get_or-drop from (take to s) i 0 ∙ ap (λ (x : ℕ). get_or (take to s) x 0) e ∙ get_or-take to s j 0 l in
+      sym (differ k (slice from to s) (λ q. n (ap (λ (t : List ℕ). get_or t i 0) q ∙ b)))
+
+  -- a part of the same length with another last byte
+  pub other_last : length k ≡ to - from → from < to → get_or k (length k - 1) 0 ≢ get_or s (to - 1) 0 → same k (slice from to s) ≡ false
+  other_last e l n = other_byte (length k - 1) (to - 1) (omega (arith, e, l)) (omega (arith, l)) n
+
+  -- a part with another first word
+  pub other_word : from + 4 ≤ to → le_nat (part k 0 4) ≢ le_nat (part s from 4) → same k (slice from to s) ≡ false
+  unfolding part
+  other_word l n =
+      let w = part-take from to 4 s l ∙ sym (part-size from (from + 4) s (omega arith)) ∙ part_lent s from 4 in
+      sym (differ k (slice from to s) (λ q. n (ap (λ (t : List ℕ). le_nat (part t 0 4)) q ∙ ap le_nat w)))
 
 -- texts with other fingerprints are not the same
 pub other-print : (k t : List ℕ) {h p : ℕ} → h ≡ print k → p ≡ print t → h ≢ p → false ≡ same k t
-other-print k t e g n = go (same k t) refl
-  where
-    go : (b : Bool) → same k t ≡ b → false ≡ b
-    go true q = absurd (n (e ∙ ap print (same_eq k t q) ∙ sym g))
-    go false q = refl
+other-print k t e g n = differ k t (λ q. n (e ∙ ap print q ∙ sym g))
 
 -- the whole of a text
 pub whole-key : (k t : List ℕ) {b : Bool} → b ≡ same (slice 0 (length k) k) t → b ≡ same k t

@@ -81,13 +81,29 @@ fn skip_lines(prints: &[u16], h: u16, n: usize) -> usize
     n
 }
 
+// Whether s in from..to is as long as the key and alike at both ends, in the first word (of fewer bytes, the first) and in the last
+// byte: short keys that share a fingerprint mostly differ there.
+fn ends_alike(key: &[u8], s: &[u8], from: usize, to: usize) -> bool
+    requires { Part s.now from to }
+    ensures { result ≡ false → same key.now (slice from to s.now) ≡ false }
+{
+    let n = key.len();
+    if n != to - from {
+        return false;
+    }
+    if 4 <= n {
+        return get_u32(key, 0) == get_u32(s, from) && key[n - 1] == s[to - 1];
+    }
+    n == 0 || key[0] == s[from] && key[n - 1] == s[to - 1]
+}
+
 // Whether s in from..to, whose fingerprint is p, is the key, whose fingerprint is h: bytes are compared only where these are equal.
 fn is_key(key: &[u8], h: u16, s: &[u8], from: usize, to: usize, p: u16) -> bool
     requires h_value { (h ≡ print key.now) × (p ≡ print (slice from to s.now)) }
     requires part { Part s.now from to }
     ensures { result ≡ same key.now (slice from to s.now) }
 {
-    h == p && part_eq(key, 0, key.len(), s, from, to)
+    h == p && ends_alike(key, s, from, to) && part_eq(key, 0, key.len(), s, from, to)
 }
 
 // The first of n lines that has the key, whose fingerprint is h.
