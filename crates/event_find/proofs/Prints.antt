@@ -1,7 +1,7 @@
 -- Laws of fingerprints: word by word, byte by byte, and of unequal texts. Assumes nothing.
 use mathlib.Core.Path.{◌≡◌, ◌∙◌, refl, sym, ap}
 use mathlib.Core.Logic.{◌≢◌}
-use mathlib.Core.Bool.{Bool, true, false}
+use mathlib.Core.Bool.{Bool, false}
 use mathlib.Core.List.{List, [], ◌∷◌}
 use Prim.Native.Nat.{ℕ, ◌+◌, ◌-◌, ◌/◌, ◌≤◌, ◌<◌}
 use native.Mathlib.Omega.{arith}
@@ -12,7 +12,7 @@ use Rattle.le.proofs.Laws.{four, part_lent}
 use Rattle.text.specs.Text.{same}
 use Rattle.text.specs.Read.{Part}
 use Rattle.text.proofs.Laws.{part_cons, part_nil, part_end, part-size, part-take}
-use Rattle.text.proofs.Same.{same_eq}
+use Rattle.text.proofs.Same.{differ}
 use Rattle.event_find.specs.Places.{mixed, print_from, print}
 use Rattle.event_find.specs.Steps.{Printing, PrintingEnd}
 
@@ -68,14 +68,6 @@ module _ {s : List ℕ} {from to h i : ℕ} (p : PrintingEnd s from to h i) wher
   printing-last l = sym (ap (λ (x : ℕ). x / 65536) (p.printing.still ∙ rw (part_nil i to s l)))
 
 -- ---- `ends_alike` and `is_key`
-
--- unequal texts are not the same
-differ : (k t : List ℕ) → k ≢ t → false ≡ same k t
-differ k t n = go (same k t) refl
-  where
-    go : (b : Bool) → same k t ≡ b → false ≡ b
-    go true q = absurd (n (same_eq k t q))
-    go false q = refl
 
 module _ (k : List ℕ) {s : List ℕ} {from to : ℕ} (p : Part s from to) where
   -- a part of another length

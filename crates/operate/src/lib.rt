@@ -121,11 +121,15 @@ impl Operate {
         }
     }
 
-    // Whether s is one of the two spellings.
+    // Whether s is one of the two spellings: two letters, or two characters of three bytes.
     fn is_spelled(self, s: &[u8]) -> bool
         ensures { result ≡ same s.now (get_or Operate·latin (code_of self) []) || same s.now (get_or Operate·chinese (code_of self) []) }
     {
-        s == self.latin().as_slice() || s == to_chinese(self.code()).as_slice()
+        if s.len() != 6 {
+            return s == self.latin().as_slice();
+        }
+        let name = to_chinese(self.code());
+        &s[..3] == &name[..3] && &s[3..] == &name[3..]
     }
 }
 
@@ -133,9 +137,9 @@ impl Operate {
 pub fn parse_operate(s: &[u8]) -> Option<Operate>
     ensures { read_of result ≡ operate_of s.now }
 {
-    for operate in Operate::ALL {
+    for operate in &Operate::ALL {
         if operate.is_spelled(s) {
-            return Some(operate);
+            return Some(*operate);
         }
     }
     None

@@ -1,6 +1,7 @@
 -- Laws of `same`, and the invariant of `part_eq`. Assumes nothing.
 use mathlib.Core.Path.{◌≡◌, refl, ap}
 use mathlib.Core.Bool.{Bool, true, false, ◌&&◌}
+use mathlib.Core.Logic.{◌≢◌}
 use mathlib.Core.List.{List, [], ◌∷◌}
 use Prim.Native.Nat.{ℕ}
 use native.Mathlib.Omega.{arith}
@@ -24,6 +25,14 @@ same_eq (x ∷ s) (y ∷ t) e = go (eqb x y) refl (same_eq s t) e
     go : (b : Bool) → eqb x y ≡ b → (same s t ≡ true → s ≡ t) → (b && same s t) ≡ true → x ∷ s ≡ y ∷ t
     go true h ih k = cc (eqb-true x y h, ih k)
     go false h ih k = absurd (let z : ◌≡◌ {A = ℕ} 0 1 = cc in omega arith)
+
+-- unequal texts are not the same
+pub differ : (s t : List ℕ) → s ≢ t → false ≡ same s t
+differ s t n = go (same s t) refl
+  where
+    go : (b : Bool) → same s t ≡ b → false ≡ b
+    go true q = absurd (n (same_eq s t q))
+    go false q = refl
 
 -- the slices' own `==` says the same
 pub same-pointwise : (s t : List ℕ) → pointwise eqb s t ≡ same s t
