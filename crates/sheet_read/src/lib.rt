@@ -71,7 +71,8 @@ fn later_lines(
 }
 
 // The sheet that s is, or the first reason to refuse it. The numbers of its events and of its clauses are written to what is lent, which has
-// room for 32 events and 256 clauses.
+// room for 32 events and 256 clauses. Never inlined: among all that compiling keeps, the searches of the text would keep their places on the stack.
+#[inline(never)]
 pub fn read_sheet(s: &[u8], events: &mut [u16], clauses: &mut [u16]) -> Result<SheetAt, SheetError>
     requires { (length events.old ≡ 192) × (length clauses.old ≡ 2304) }
     ensures { SheetAs s.now events.new clauses.new result }
